@@ -1,0 +1,76 @@
+-- One act of flooding taken apart: whatever holds of each thing that an act can do holds of the act.
+use mathlib.Core.Path.{_≡_, refl}
+use mathlib.Core.Bool.{Bool, true, false, cond, _&&_, _||_, not}
+use mathlib.Core.List.{List, [], _∷_}
+use Prim.Native.Nat.{ℕ, zero, suc, _<_, _≤_}
+use native.Mathlib.Nat.{le-refl}
+use native.Mathlib.Omega.{arith}
+use lib.Dec.{eqb, ltb}
+use borrow.Author.Tests.{ltb-true}
+use Rattle.std.proofs.shelf.Ways.{tells}
+use Rattle.model.specs.Words.{isIn}
+use Rattle.model.specs.Flood.{Item, fresher, Copy, Setup, Net, Act, Turns, Speaks, Tells, Gets, Back, row, unspoken, puts, spoken, taken, gets, getsNth, recall, act, net}
+use Rattle.model.specs.Spread.{copyIs}
+use Rattle.model.proofs.Tests.{of-cond, and-first, and-second, not-to-false}
+
+-- the net after box a turns, tells or is back
+abbrev pub turned : {P : Type 0} → ℕ → (ℕ → Bool) → (ℕ → Bool) → (ℕ → P) → Net P → Net P
+turned a l sp p w = record { link = row a l (w .link); speaks = row a sp (w .speaks); would = row a p (w .would); holds = w .holds; had = w .had; flight = w .flight; drawn = w .drawn }
+
+abbrev pub telling : {P : Type 0} → ℕ → ℕ → ℕ → Net P → Net P
+telling a e i w = record { link = w .link; speaks = w .speaks; would = w .would; holds = w .holds; had = w .had; flight = record { from = a; to = e; about = i; item = w .holds a i } ∷ w .flight; drawn = w .drawn }
+
+abbrev pub back : {P : Type 0} → Setup P → ℕ → (ℕ → ℕ) → Net P → Net P
+back s a to w = record { link = w .link; speaks = w .speaks; would = w .would; holds = row a (λ i. recall (unspoken s) (to i) (w .had a i)) (w .holds); had = w .had; flight = w .flight; drawn = w .drawn }
+
+-- what a net has to show of a property so that each act keeps it: from w, by e
+pub record Does {P : Type 0} (s : Setup P) (e : Act P) (w : Net P) (Q : Net P → Type 0) : Type 0 where
+  pub stays : Q w
+  pub turns : (a : ℕ) (l sp : ℕ → Bool) (p : ℕ → P) → e ≡ Turns a l sp p → a < s .boxes → Q (turned a l sp p w)
+  pub speaks : (a i number t : ℕ) → w .speaks a i ≡ true → isIn t (w .drawn) ≡ false → w .holds a i .number ≤ number → Q (puts a i (spoken a i number t w) (t ∷ []) w)
+  pub tells : (a e i : ℕ) → w .link a e ≡ true → Q (telling a e i w)
+  pub takes : (k : ℕ) (x : Copy P) → copyIs k x (w .flight) → fresher (x .item) (w .holds (x .to) (x .about)) ≡ true → Q (puts (x .to) (x .about) (x .item) [] w)
+  pub falls : (a : ℕ) (to : ℕ → ℕ) → e ≡ Back a to → a < s .boxes → Q (back s a to w)
+
+-- a copy that comes is one of those on their way
+pub of-nth : {P : Type 0} (Q : Net P → Type 0) (k t : ℕ) (xs : List (Copy P)) (w : Net P) → Q w → ((m : ℕ) (x : Copy P) → copyIs m x xs → Q (gets x t w)) → Q (getsNth k t xs w)
+unfolding getsNth copyIs
+of-nth Q k t [] w q f = q
+of-nth Q zero t (x ∷ xs) w q f = f 0 x refl
+of-nth Q (suc k) t (x ∷ xs) w q f = of-nth Q k t xs w q (λ m y h. f (suc m) y h)
+
+pub fresher-number : {P : Type 0} (x y : Item P) → fresher x y ≡ true → y .number ≤ x .number
+fresher-number x y h = go (y .number) (x .number) (y .tag) (x .tag) h
+  where
+    go : (m n t u : ℕ) → (ltb m n || (eqb m n && ltb t u)) ≡ true → m ≤ n
+    go m n t u h = grind (arith, tells)
+
+-- what each effect keeps, the act keeps
+pub by-act : {P : Type 0} (s : Setup P) (e : Act P) (w : Net P) (Q : Net P → Type 0) → Does s e w Q → Q (act s e w)
+by-act s (Turns a l sp p) w Q d = of-cond Q (ltb a (s .boxes)) (turned a l sp p w) w (λ h. d .turns a l sp p refl (ltb-true a (s .boxes) h)) (λ h. d .stays)
+by-act s (Speaks a i t) w Q d =
+    of-cond Q (ltb a (s .boxes) && (ltb i (s .subjects) && (w .speaks a i && not (isIn t (w .drawn))))) (puts a i (spoken a i (w .holds a i .number) t w) (t ∷ []) w) w
+      (λ h. let g : (w .speaks a i && not (isIn t (w .drawn))) ≡ true = and-second (ltb i (s .subjects)) (w .speaks a i && not (isIn t (w .drawn))) (and-second (ltb a (s .boxes)) (ltb i (s .subjects) && (w .speaks a i && not (isIn t (w .drawn)))) h) in
+        d .speaks a i (w .holds a i .number) t (and-first (w .speaks a i) (not (isIn t (w .drawn))) g) (not-to-false (isIn t (w .drawn)) (and-second (w .speaks a i) (not (isIn t (w .drawn))) g)) (le-refl (w .holds a i .number)))
+      (λ h. d .stays)
+by-act s (Tells a e i) w Q d =
+    of-cond Q (ltb a (s .boxes) && (ltb e (s .boxes) && (ltb i (s .subjects) && w .link a e))) (telling a e i w) w
+      (λ h. d .tells a e i (and-second (ltb i (s .subjects)) (w .link a e) (and-second (ltb e (s .boxes)) (ltb i (s .subjects) && w .link a e) (and-second (ltb a (s .boxes)) (ltb e (s .boxes) && (ltb i (s .subjects) && w .link a e)) h))))
+      (λ h. d .stays)
+by-act s (Gets k t) w Q d =
+    of-nth Q k t (w .flight) w (d .stays) (λ m x there.
+      of-cond Q (w .link (x .to) (x .from) && not (isIn t (w .drawn))) (taken x t w) w
+        (λ g. of-cond Q (fresher (x .item) (w .holds (x .to) (x .about)))
+            (cond (w .speaks (x .to) (x .about)) (puts (x .to) (x .about) (spoken (x .to) (x .about) (x .item .number) t w) (t ∷ []) w) (puts (x .to) (x .about) (x .item) [] w)) w
+          (λ f. of-cond Q (w .speaks (x .to) (x .about)) (puts (x .to) (x .about) (spoken (x .to) (x .about) (x .item .number) t w) (t ∷ []) w) (puts (x .to) (x .about) (x .item) [] w)
+            (λ sp. d .speaks (x .to) (x .about) (x .item .number) t sp (not-to-false (isIn t (w .drawn)) (and-second (w .link (x .to) (x .from)) (not (isIn t (w .drawn))) g)) (fresher-number (x .item) (w .holds (x .to) (x .about)) f))
+            (λ sp. d .takes m x there f))
+          (λ f. d .stays))
+        (λ g. d .stays))
+by-act s (Back a to) w Q d = of-cond Q (ltb a (s .boxes)) (back s a to w) w (λ h. d .falls a to refl (ltb-true a (s .boxes) h)) (λ h. d .stays)
+
+-- a property that each act keeps, and that holds at the beginning, holds always
+pub always : {P : Type 0} (s : Setup P) (Q : List (Act P) → Net P → Type 0) → Q [] (net s []) → ((e : Act P) (es : List (Act P)) → Q es (net s es) → Does s e (net s es) (Q (e ∷ es))) → (es : List (Act P)) → Q es (net s es)
+unfolding net
+always s Q q f [] = q
+always s Q q f (e ∷ es) = by-act s e (net s es) (Q (e ∷ es)) (f e es (always s Q q f es))

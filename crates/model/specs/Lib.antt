@@ -1,0 +1,13 @@
+pub mod Map
+pub mod Words
+pub mod Forward
+pub mod Promise
+pub mod Code
+pub mod Ways
+pub mod Flood
+pub mod Spread
+pub mod Settling
+pub mod Roads
+pub mod Hops
+pub mod Box
+pub mod CodeOf
