@@ -11,3 +11,5 @@ pub mod Roads
 pub mod Hops
 pub mod Box
 pub mod CodeOf
+pub mod Boxes
+pub mod Cases
