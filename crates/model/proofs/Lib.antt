@@ -49,3 +49,11 @@ pub mod Ends
 pub mod Settles
 pub mod Whole
 pub mod Worked
+pub mod Rows
+pub mod Marks
+pub mod BoxCode
+pub mod Effects
+pub mod Falling
+pub mod Ticking
+pub mod EveryBox
+pub mod Deliver

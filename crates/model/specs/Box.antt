@@ -72,7 +72,7 @@ forgets s = record { n = s .n; me = s .me; cost = s .cost; word = λ i. unsaid; 
 abbrev pub fallen : Box → Box
 fallen s = begun (s .n) (s .me)
 
--- its roads close, from the highest to the lowest of the boxes below k (the latest event first)
+-- its open roads close, those to the boxes below k, in rising order (the latest event first)
 unfoldable pub closings : Box → ℕ → List Ev
 closings s zero = []
 closings s (suc k) = cond (isOpen k s) (Road (s .me) k 0 ∷ closings s k) (closings s k)

@@ -74,7 +74,7 @@ arrives k t [] b = b
 arrives zero t (x ∷ xs) b = does (x .to) (hears x t) b
 arrives (suc k) t (x ∷ xs) b = arrives k t xs b
 
--- an event is a call of the box that it is about; boxes of n or more do nothing
+-- an event is a call of the box that it is about; boxes of n or more send nothing and count for nothing
 abbrev pub doesEvent : ℕ → Ev → Boxes → Boxes
 doesEvent n (Road a e c) b = does a (roadIs e c) b
 doesEvent n (Says a t) b = does a (saysNow t) b

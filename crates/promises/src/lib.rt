@@ -1,6 +1,7 @@
 // The theorems about nets of boxes, each carried by the contract of a function, so that the gate asks for its proof.
 //
 // The statements and their proofs are in `model`; there is no code here to run. Start with `whole`: it is the promise of the whole.
+ghost use Rattle.model.specs.Boxes.{BoxIsCode, TakesSo, FallSo, TickSo, EveryBoxStands, BoxesDeliver};
 ghost use Rattle.model.specs.Cases.{CasesHold};
 ghost use Rattle.model.specs.Hops.{HopsTrue};
 ghost use Rattle.model.specs.Promise.{Least, SameWords, OwnWords, Onward, ComesToRest, Ends, QuietIsRest, MapTrue, Main};
@@ -110,6 +111,24 @@ pub fn roads_are_an_instance() -> u8
 // The worked cases, as rows of one table.
 pub fn worked_cases() -> u8
     ensures { λ _. ⌜ CasesHold ⌝ }
+{
+    0
+}
+
+// The calls of a box are the code that is asked for, event by event, and what must be shown is shown; taking a word, a fall and a tick do the events that they should.
+pub fn calls_of_a_box() -> u8
+    ensures code { λ _. ⌜ BoxIsCode ⌝ }
+    ensures takes { λ _. ⌜ TakesSo ⌝ }
+    ensures falls { λ _. ⌜ FallSo ⌝ }
+    ensures ticks { λ _. ⌜ TickSo ⌝ }
+{
+    0
+}
+
+// Boxes driven by any events with fresh tags stand after these; and whatever boxes stand, at rest they hand every packet on to where it goes at the least cost, or refuse it where it was sent.
+pub fn nets_of_boxes() -> u8
+    ensures stand { λ _. ⌜ EveryBoxStands ⌝ }
+    ensures deliver { λ _. ⌜ BoxesDeliver ⌝ }
 {
     0
 }

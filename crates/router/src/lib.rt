@@ -1,0 +1,12 @@
+// One box by value: its open roads, the newest word it was told of each box, and what its neighbours have shown that they have.
+//
+// It knows the model, the values of `messages`, set bits and least ways; nothing of bytes, wires or hellos.
+// Each call's contract says the whole state it leaves, by the model's definition of that call, and which events of the model it did.
+mod answers;
+mod calls;
+mod state;
+
+pub use answers::Hop;
+pub use answers::Outcome;
+pub use answers::Refusal;
+pub use state::Router;
