@@ -1,1 +1,4 @@
 pub mod Lines
+pub mod Spaced
+pub mod Back
+pub mod Range

@@ -1,17 +1,20 @@
 -- Laws of the parts of a line: where the first blank stands, one part more, and the number that digits write.
 use mathlib.Core.Path.{_≡_, refl, sym, _∙_, ap}
-use mathlib.Core.Bool.{Bool, true, false, cond, _&&_}
-use mathlib.Core.List.{List, [], _∷_, _++_}
-use mathlib.Core.Logic.{_⊎_, inl, inr}
+use mathlib.Core.Bool.{Bool, true, false, cond}
+use mathlib.Core.List.{List, [], _∷_}
+use mathlib.Core.Logic.{inl, inr}
 use Prim.Native.Nat.{ℕ, zero, suc, _+_, _-_, _*_, _<_, _≤_, suc-le-suc}
 use native.Mathlib.Omega.{arith}
 use native.Mathlib.Numerals.{add-one}
-use lib.Dec.{eqb, leb, T}
+use lib.Dec.{eqb, leb}
 use lib.ListN.{length, getD, take, drop}
-use lib.Seq.{drop-cons, drop-nil, take-nil, drop-length}
-use Rattle.std.specs.declared.option.Option.{Option}
+use lib.Seq.{drop-cons, take-nil}
 use Rattle.std.specs.declared.option.Option.the-variants.{Some, None}
-use Rattle.std.proofs.shelf.Tests.{eq-eqb, ne-eqb, le-leb, lt-leb, cond-true, cond-false, cond-both, leb-true, leb-false, and-left, and-right, and-from, and-parts, cases-lt}
+use Rattle.std.proofs.shelf.Tests.{eq-eqb, ne-eqb, le-leb, lt-leb, cond-true, cond-false, cond-both, cases-bool, false≢true}
+use Rattle.std.specs.Orderings.{Decides}
+use Rattle.std.specs.shelf.Text.{sameBytes}
+use Rattle.std.proofs.shelf.Equals.{sameBytes-decides}
+use Rattle.std.proofs.shelf.Lists.{drop-all}
 use Rattle.script.specs.Line.{before, behind, partOf, partsOf, digitsOf, isDigit, atMost, numberOf}
 
 -- the first blank stands at i: what is before it
@@ -71,3 +74,27 @@ digits-past most n (b ∷ s) h =
 pub number-is : (most : ℕ) (s : List ℕ) → 0 < length s → numberOf most s ≡ atMost most (digitsOf 0 s)
 number-is most [] h = absurd (omega arith)
 number-is most (b ∷ s) h = refl
+
+-- a text that isn't empty, and at whose place i the digits so far stop, is no number
+pub number-stops : (most n : ℕ) (s : List ℕ) (i : ℕ) → i < length s → isDigit (getD s i 0) ≡ false → digitsOf 0 s ≡ digitsOf n (drop i s) → numberOf most s ≡ None
+number-stops most n s i h no-digit so-far =
+    number-is most s (omega arith) ∙
+    ap (λ o. atMost most o) (so-far ∙ digits-more n s i h ∙ cond-false (isDigit (getD s i 0)) (digitsOf (n * 10 + (getD s i 0 - 48)) (drop (i + 1) s)) None no-digit)
+
+-- the digits so far, and one more
+pub digits-on : (n : ℕ) (s : List ℕ) (i : ℕ) → i < length s → isDigit (getD s i 0) ≡ true → digitsOf 0 s ≡ digitsOf n (drop i s) → digitsOf 0 s ≡ digitsOf (n * 10 + (getD s i 0 - 48)) (drop (i + 1) s)
+digits-on n s i h digit so-far = so-far ∙ digits-more n s i h ∙ cond-true (isDigit (getD s i 0)) (digitsOf (n * 10 + (getD s i 0 - 48)) (drop (i + 1) s)) None digit
+
+-- a text whose digits are past the limit at some place is no number
+pub number-past : (most n : ℕ) (s : List ℕ) (i : ℕ) → 0 < length s → most < n → digitsOf 0 s ≡ digitsOf n (drop i s) → numberOf most s ≡ None
+number-past most n s i h past so-far = number-is most s h ∙ ap (λ o. atMost most o) so-far ∙ digits-past most n (drop i s) past
+
+-- a text whose digits are read to the end is their number
+pub number-ends : (most n : ℕ) (s : List ℕ) (i : ℕ) → 0 < length s → length s ≤ i → n ≤ most → digitsOf 0 s ≡ digitsOf n (drop i s) → numberOf most s ≡ Some n
+number-ends most n s i h end fits so-far =
+    number-is most s h ∙ ap (λ o. atMost most o) (so-far ∙ ap (λ t. digitsOf n t) (drop-all i s end) ∙ digits-none n) ∙ cond-true (leb n most) (Some n) None (le-leb n most fits)
+
+-- a test that decides whether two texts are one is `sameBytes`
+pub same-is : (xs ys : List ℕ) (r : Bool) → Decides r (xs ≡ ys) → r ≡ sameBytes xs ys
+same-is xs ys true h = sym (sameBytes-decides xs ys .1 (h .0 refl))
+same-is xs ys false h = elim (cases-bool (sameBytes xs ys)) [ inl e ↦ absurd (false≢true (h .1 (sameBytes-decides xs ys .0 e))) | inr e ↦ sym e ]
