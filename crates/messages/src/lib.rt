@@ -7,9 +7,11 @@ ghost use Rattle.messages.specs.Values.{newerId, sameId};
 ghost use mathlib.Core.Path.{_≡_};
 
 pub use values::Hello;
+pub use values::Seens;
 pub use values::Settings;
 pub use values::Word;
 pub use values::WordId;
+pub use values::Words;
 
 impl WordId {
     // Of two words of one box the newer has the larger count, or with equal counts the larger tag.

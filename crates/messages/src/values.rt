@@ -15,6 +15,22 @@ pub struct Word {
     pub costs: [u16; 64],
 }
 
+// A packet of words: one to four, with the drawn number of the box that sends them. Those past `count` are all zeros.
+#[derive(Clone, Copy)]
+pub struct Words {
+    pub drawn: u64,
+    pub count: u8,
+    pub items: [Word; 4],
+}
+
+// A packet of seens: the numbers of one to four words that were seen, with the drawn number of the box that sends them. Those past `count` are all zeros.
+#[derive(Clone, Copy)]
+pub struct Seens {
+    pub drawn: u64,
+    pub count: u8,
+    pub items: [WordId; 4],
+}
+
 // A hello: who sends it, the number it drew when it was switched on or last fell, and the drawn number it heard on this wire, 0 for none.
 #[derive(Clone, Copy)]
 pub struct Hello {
