@@ -1,17 +1,14 @@
 -- Links over which something new could be told: finding one, the one with the newest item, and rest where there is none.
--- Assumes nothing.
-use mathlib.Core.Path.{_≡_, refl}
-use mathlib.Core.Bool.{Bool, true, false, _&&_, _||_, not}
-use mathlib.Core.List.{List, [], _∷_}
+use mathlib.Core.Path.{_≡_}
+use mathlib.Core.Bool.{Bool, true, false, _&&_}
 use mathlib.Core.Logic.{_⊎_, inl, inr, ⊎-elim}
 use Prim.Native.Nat.{ℕ, _<_}
-use lib.Dec.{eqb, T}
-use borrow.Author.Tests.{both-ways}
-use Rattle.std.proofs.shelf.Tests.{cases-bool, and-parts, and-from, or-right}
-use Rattle.model.specs.Flood.{fresher, Setup, Net, Act, Speaks, Tells, Gets, net}
-use Rattle.model.specs.Spread.{owes, Settled, byRuleFor}
-use Rattle.model.proofs.FreshOrder.{same-both}
-use Rattle.model.proofs.BelowSearch.{find, Freshest, freshest}
+use Rattle.std.proofs.shelf.Tests.{both-ways, cases-bool, and-parts, and-from}
+use Rattle.model.specs.Flood.{fresher, Setup, Net}
+use Rattle.model.specs.Spread.{owes, Settled}
+use Rattle.model.proofs.Fresh.{Freshest, freshest}
+use Rattle.model.proofs.Below.{find}
+use Rattle.model.proofs.Quiet.{quiet-for}
 
 -- both ends hold the link from a to e open, and e has something older of i
 pub record Active {P : Type 0} (w : Net P) (i a e : ℕ) : Type 0 where
@@ -27,9 +24,11 @@ source? s w i a = ⊎-elim (λ r. inl (r .0, r .1, is (r .0) (r .2))) (λ none. 
   where
     test : ℕ → Bool
     test e = w .link a e && (w .link e a && fresher (w .holds a i) (w .holds e i))
+
     is : (e : ℕ) → test e ≡ true → Active w i a e
     is e h = let r = and-parts (w .link a e) (w .link e a && fresher (w .holds a i) (w .holds e i)) h in let q = and-parts (w .link e a) (fresher (w .holds a i) (w .holds e i)) (r .1) in
         record { out = r .0; back = q .0; news = q .1 }
+
     passes : (e : ℕ) → Active w i a e → test e ≡ true
     passes e h = and-from (w .link a e) (w .link e a && fresher (w .holds a i) (w .holds e i)) (h .out) (and-from (w .link e a) (fresher (w .holds a i) (w .holds e i)) (h .back) (h .news))
 
@@ -39,9 +38,7 @@ newest-link s w i = freshest (s .boxes) (Source s w i) (λ a. w .holds a i) (sou
 
 -- no active link, and nobody owes: rest
 pub none-active : {P : Type 0} (s : Setup P) (w : Net P) (i : ℕ) → ((a : ℕ) → a < s .boxes → owes s w a i ≡ false) → ((a : ℕ) → a < s .boxes → Source s w i a → ⊥) → Settled s w i
-none-active s w i own none = record {
-    own = own;
-    alike = λ a e ha he out back. same-both (w .holds a i) (w .holds e i) (not-news a e ha he out back) (not-news e a he ha back out) }
+none-active {P} s w i own none = quiet-for P s w i not-news own
   where
     not-news : (a e : ℕ) → a < s .boxes → e < s .boxes → w .link a e ≡ true → w .link e a ≡ true → fresher (w .holds a i) (w .holds e i) ≡ false
     not-news a e ha he out back = ⊎-elim (λ h. absurd (none a ha (e, he, record { out = out; back = back; news = h }))) (λ h. h) (cases-bool (fresher (w .holds a i) (w .holds e i)))
@@ -49,17 +46,3 @@ none-active s w i own none = record {
 -- some box owes, or none does
 pub some-owes : {P : Type 0} (s : Setup P) (w : Net P) (i : ℕ) → ((a : ℕ) × (a < s .boxes) × (owes s w a i ≡ true)) ⊎ ((a : ℕ) → a < s .boxes → owes s w a i ≡ false)
 some-owes s w i = find (s .boxes) (λ a. owes s w a i)
-
-is-so : (b : Bool) → b ≡ true → T b
-is-so true e = tt
-is-so false e = both-ways false refl e
-
--- who owes says by rule
-pub rule-saying : {P : Type 0} (s : Setup P) (a i t : ℕ) (es : List (Act P)) → owes s (net s es) a i ≡ true → (j : ℕ) → T (byRuleFor s j (Speaks a i t ∷ []) es)
-unfolding byRuleFor
-rule-saying s a i t es h j = is-so ((not (eqb i j) || owes s (net s es) a i) && true) (and-from (not (eqb i j) || owes s (net s es) a i) true (or-right (not (eqb i j)) (owes s (net s es) a i) h) refl)
-
--- a telling is by rule
-pub rule-telling : {P : Type 0} (s : Setup P) (a e i t : ℕ) (es : List (Act P)) (j : ℕ) → T (byRuleFor s j (Gets 0 t ∷ Tells a e i ∷ []) es)
-unfolding byRuleFor
-rule-telling s a e i t es j = tt

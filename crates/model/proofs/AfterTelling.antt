@@ -1,38 +1,17 @@
 -- What holds after a telling from the newest source: no active source is fresher, fewer boxes are behind, nobody owes.
--- Assumes nothing.
 use mathlib.Core.Path.{_≡_, sym, ap, subst, _∙_}
-use mathlib.Core.Bool.{Bool, true, false, _&&_, _||_, not}
+use mathlib.Core.Bool.{true, false}
 use mathlib.Core.Logic.{⊎-elim}
-use Prim.Native.Nat.{ℕ, suc, _<_}
-use native.Mathlib.Omega.{arith}
-use lib.Dec.{ltb}
-use borrow.Author.Tests.{both-ways, lt-ltb}
-use Rattle.std.proofs.shelf.Tests.{cases-eq, and-from, and-left, and-right, or-right, not-from-true}
-use Rattle.model.specs.Flood.{Item, fresher, Setup, Net, spoken}
+use Prim.Native.Nat.{ℕ, _<_}
+use Rattle.std.proofs.shelf.Tests.{both-ways, cases-eq}
+use Rattle.model.specs.Flood.{Item, fresher, Setup, Net}
 use Rattle.model.specs.Spread.{Lone, owes}
-use Rattle.model.proofs.FreshOrder.{fresher-self, upto-trans, fresher-upto, fresher-over}
-use Rattle.model.proofs.BelowSearch.{count, count-less}
-use Rattle.model.proofs.OneTelling.{Puts}
+use Rattle.model.proofs.Fresh.{fresher-self, upto-trans, fresher-upto, fresher-over}
+use Rattle.model.proofs.Counts.{count, count-lt}
+use Rattle.model.proofs.Acts.{Puts}
 use Rattle.model.proofs.ActiveLinks.{Active, Source}
-
-abbrev owesBy : {P : Type 0} → Setup P → Bool → Item P → P → Bool
-owesBy s b x p = b && not (s .same (x .body) p && (s .mute p || ltb 0 (x .number)))
-
-owes-same : {P : Type 0} (s : Setup P) (w v : Net P) (p i : ℕ) → v .speaks ≡ w .speaks → v .would ≡ w .would → v .holds p i ≡ w .holds p i → owes s v p i ≡ owes s w p i
-owes-same s w v p i a b c =
-    ap (λ sp. owesBy s (sp p i) (v .holds p i) (v .would p i)) a ∙ ap (λ x. owesBy s (w .speaks p i) x (v .would p i)) c ∙ ap (λ wd. owesBy s (w .speaks p i) (w .holds p i) (wd p i)) b
-
--- who doesn't speak owes nothing
-pub silent-owes : {P : Type 0} (s : Setup P) (w : Net P) (p i : ℕ) → w .speaks p i ≡ false → owes s w p i ≡ false
-silent-owes s w p i h = and-left (w .speaks p i) (not (s .same (w .holds p i .body) (w .would p i) && (s .mute (w .would p i) || ltb 0 (w .holds p i .number)))) h
-
--- who has just said owes nothing
-pub said-owes : {P : Type 0} (s : Setup P) (w v : Net P) (e i m t : ℕ) → v .would ≡ w .would → v .holds e i ≡ spoken e i m t w → owes s v e i ≡ false
-said-owes s w v e i m t a b =
-    let p = w .would e i in
-    ap (λ x. owesBy s (v .speaks e i) x (v .would e i)) b ∙ ap (λ wd. owesBy s (v .speaks e i) (spoken e i m t w) (wd e i)) a ∙
-      and-right (v .speaks e i) (not (s .same p p && (s .mute p || ltb 0 (suc m))))
-        (not-from-true (s .same p p && (s .mute p || ltb 0 (suc m))) (and-from (s .same p p) (s .mute p || ltb 0 (suc m)) (s .same-self p) (or-right (s .mute p) (ltb 0 (suc m)) (lt-ltb 0 (suc m) (omega arith)))))
+use Rattle.model.proofs.Tests.{t-true, true-t}
+use Rattle.model.proofs.Owing.{owes-same}
 
 -- nobody owes, if who took something doesn't
 pub own-after : {P : Type 0} (s : Setup P) (w v : Net P) (e i : ℕ) (x : Item P) → Puts w v e i x → ((p : ℕ) → p < s .boxes → owes s w p i ≡ false) → owes s v e i ≡ false →
@@ -43,15 +22,18 @@ own-after s w v e i x u own h p l =
 -- only what e took makes a link active
 active-before : {P : Type 0} (w v : Net P) (e i : ℕ) (x : Item P) (p q : ℕ) → Puts w v e i x → fresher (w .holds e i) x ≡ false → (p ≡ e → ⊥) → Active v i p q → Active w i p q
 active-before w v e i x p q u old d h = record {
-    out = subst (λ l. l p q ≡ true) (u .link) (h .out);
-    back = subst (λ l. l q p ≡ true) (u .link) (h .back);
-    news = ⊎-elim at-e off-e (cases-eq q e) }
+  out = subst (λ l. l p q ≡ true) (u .link) (h .out);
+  back = subst (λ l. l q p ≡ true) (u .link) (h .back);
+  news = ⊎-elim at-e off-e (cases-eq q e);
+}
   where
     mine : fresher (w .holds p i) (v .holds q i) ≡ true
     mine = subst (λ y. fresher y (v .holds q i) ≡ true) (u .there p d) (h .news)
+
     at-e : q ≡ e → fresher (w .holds p i) (w .holds q i) ≡ true
     at-e r = let n : fresher (w .holds p i) x ≡ true = subst (λ y. fresher (w .holds p i) y ≡ true) (ap (λ k. v .holds k i) r ∙ u .here) mine in
         subst (λ k. fresher (w .holds p i) (w .holds k i) ≡ true) (sym r) (fresher-over (w .holds p i) x (w .holds e i) n old)
+
     off-e : (q ≡ e → ⊥) → fresher (w .holds p i) (w .holds q i) ≡ true
     off-e r = subst (λ y. fresher (w .holds p i) y ≡ true) (u .there q r) mine
 
@@ -64,21 +46,23 @@ top-after s w v e i z x u old le top p l r = ⊎-elim at-e off-e (cases-eq p e)
   where
     at-e : p ≡ e → fresher (v .holds p i) x ≡ false
     at-e q = subst (λ y. fresher y x ≡ false) (sym (ap (λ k. v .holds k i) q ∙ u .here)) (fresher-self x)
+
     off-e : (p ≡ e → ⊥) → fresher (v .holds p i) x ≡ false
     off-e q = subst (λ y. fresher y x ≡ false) (sym (u .there p q)) (upto-trans (w .holds p i) z x (top p l (r .0, r .1, active-before w v e i x p (r .0) u old q (r .2))) le)
 
 -- how many boxes are behind x
 abbrev pub behind : {P : Type 0} → Setup P → Net P → ℕ → Item P → ℕ
-behind s w i x = count (λ p. fresher x (w .holds p i)) (s .boxes)
+behind s w i x = count (s .boxes) (λ p. fresher x (w .holds p i))
 
 -- e was behind z and has x, which is not fresher than z: fewer are behind
 pub behind-after : {P : Type 0} (s : Setup P) (w v : Net P) (e i : ℕ) (z x : Item P) → Puts w v e i x → e < s .boxes → fresher z (w .holds e i) ≡ true → fresher x z ≡ false → behind s v i x < behind s w i z
 behind-after s w v e i z x u l h le =
-    count-less (λ p. fresher x (v .holds p i)) (λ p. fresher z (w .holds p i)) (s .boxes) e (λ p m k. ⊎-elim (at-e p) (off-e p k) (cases-eq p e)) l
-      (subst (λ y. fresher x y ≡ false) (sym (u .here)) (fresher-self x)) h
+    count-lt (s .boxes) (λ p. fresher x (v .holds p i)) (λ p. fresher z (w .holds p i)) (λ p m k. true-t (fresher z (w .holds p i)) (⊎-elim (at-e p) (off-e p (t-true (fresher x (v .holds p i)) k)) (cases-eq p e))) e l
+    (subst (λ y. fresher x y ≡ false) (sym (u .here)) (fresher-self x)) h
   where
     at-e : (p : ℕ) → p ≡ e → fresher z (w .holds p i) ≡ true
     at-e p q = subst (λ k. fresher z (w .holds k i) ≡ true) (sym q) h
+
     off-e : (p : ℕ) → fresher x (v .holds p i) ≡ true → (p ≡ e → ⊥) → fresher z (w .holds p i) ≡ true
     off-e p k q = fresher-upto x z (w .holds p i) (subst (λ y. fresher x y ≡ true) (u .there p q) k) le
 
@@ -91,8 +75,10 @@ past-after s w v e i z x u mute le past p l h = ⊎-elim at-e off-e (cases-eq p 
   where
     spoke : w .speaks p i ≡ true
     spoke = subst (λ sp. sp p i ≡ true) (u .speaks) h
+
     at-e : p ≡ e → fresher x (v .holds p i) ≡ false
     at-e q = absurd (both-ways (w .speaks e i) mute (subst (λ k. w .speaks k i ≡ true) q spoke))
+
     off-e : (p ≡ e → ⊥) → fresher x (v .holds p i) ≡ false
     off-e q = subst (λ y. fresher x y ≡ false) (sym (u .there p q)) (upto-trans x z (w .holds p i) le (past p l spoke))
 

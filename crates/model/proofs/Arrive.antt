@@ -1,5 +1,4 @@
 -- At rest every packet that can arrive does, by a way than which none is cheaper, and is refused at once where no way leads. That the same number and tag are the same words is taken as an argument.
--- Assumes nothing.
 use mathlib.Core.Path.{_≡_, refl, sym, _∙_, ap, ap₂}
 use mathlib.Core.Bool.{Bool, true, false, cond}
 use mathlib.Core.List.{List}
@@ -7,7 +6,7 @@ use Prim.Native.Nat.{ℕ, zero, suc, _+_, _<_}
 use native.Mathlib.Nat.{zero-add}
 use native.Mathlib.Omega.{arith}
 use lib.Dec.{eqb}
-use borrow.Author.Tests.{eqb-true, lt-ltb, ne-eqb}
+use Rattle.std.proofs.shelf.Tests.{eqb-true, lt-ltb, ne-eqb}
 use Rattle.model.specs.Map.{Never, At, far, Hop, Nowhere, To, hop}
 use Rattle.model.specs.Words.{World, Ev, world}
 use Rattle.model.specs.Forward.{mapOf, realMap, Arrived, Refused, onward, travels}
@@ -21,26 +20,26 @@ use Rattle.model.proofs.Sizes.{world-n}
 use Rattle.model.proofs.AtRest.{SameIn, same-in, open-road, hops-in, inside}
 
 -- a packet at its end, one that goes on, and one that can't
-pub travels-end : (k : ℕ) (w : World) (d c u : ℕ) → eqb u d ≡ true → travels (suc k) w d c u ≡ Arrived c
+travels-end : (k : ℕ) (w : World) (d c u : ℕ) → eqb u d ≡ true → travels (suc k) w d c u ≡ Arrived c
 unfolding travels
 travels-end k w d c u h = ap (λ (b : Bool). cond b (Arrived c) (onward (λ x v. travels k w d x v) w c u (hop (mapOf w u) d u))) h
 
-pub travels-on : (k : ℕ) (w : World) (d c u v : ℕ) → eqb u d ≡ false → hop (mapOf w u) d u ≡ To v → 0 < w .real u v → travels (suc k) w d c u ≡ travels k w d (c + w .real u v) v
+travels-on : (k : ℕ) (w : World) (d c u v : ℕ) → eqb u d ≡ false → hop (mapOf w u) d u ≡ To v → 0 < w .real u v → travels (suc k) w d c u ≡ travels k w d (c + w .real u v) v
 unfolding travels
 travels-on k w d c u v h i p =
     ap₂ (λ (b : Bool) (x : Hop). cond b (Arrived c) (onward (λ x v. travels k w d x v) w c u x)) h i
-      ∙ ap (λ (b : Bool). cond b (travels k w d (c + w .real u v) v) (Refused u)) (lt-ltb 0 (w .real u v) p)
+    ∙ ap (λ (b : Bool). cond b (travels k w d (c + w .real u v) v) (Refused u)) (lt-ltb 0 (w .real u v) p)
 
-pub travels-no : (k : ℕ) (w : World) (d c u : ℕ) → eqb u d ≡ false → hop (mapOf w u) d u ≡ Nowhere → travels (suc k) w d c u ≡ Refused u
+travels-no : (k : ℕ) (w : World) (d c u : ℕ) → eqb u d ≡ false → hop (mapOf w u) d u ≡ Nowhere → travels (suc k) w d c u ≡ Refused u
 unfolding travels
 travels-no k w d c u h i = ap₂ (λ (b : Bool) (x : Hop). cond b (Arrived c) (onward (λ x v. travels k w d x v) w c u x)) h i
 
 -- each router's own next place is the real one
-pub own-hop : (w : World) → SameIn w → Rest w → (d u : ℕ) → u < w .n → hop (mapOf w u) d u ≡ hop (realMap w) d u
+own-hop : (w : World) → SameIn w → Rest w → (d u : ℕ) → u < w .n → hop (mapOf w u) d u ≡ hop (realMap w) d u
 own-hop w same r d u l = hops-in w same r u d u l l (reach-self (realMap w) u) .0
 
 -- with more steps than places strictly nearer, a packet arrives and pays the least
-pub arrives-in : (w : World) → SameIn w → Rest w → (d k x u c : ℕ) → u < w .n → rank (realMap w) d u < k → far (realMap w) d u ≡ At c → travels k w d x u ≡ Arrived (x + c)
+arrives-in : (w : World) → SameIn w → Rest w → (d k x u c : ℕ) → u < w .n → rank (realMap w) d u < k → far (realMap w) d u ≡ At c → travels k w d x u ≡ Arrived (x + c)
 arrives-in w same r d zero x u c l q h = absurd (omega arith)
 arrives-in w same r d (suc k) x u c l q h = go (eqb u d) refl (λ y v m. arrives-in w same r d k y v m)
   where
@@ -57,7 +56,7 @@ arrives-in w same r d (suc k) x u c l q h = go (eqb u d) refl (λ y v m. arrives
         let e : x + w .real u v + p .0 ≡ x + c = omega (arith, o .2, p .3) in
         travels-on k w d x u v i (own-hop w same r d u l ∙ s .1) (o .1) ∙ rec (x + w .real u v) v (p .0) (s .2) (omega arith) (p .1) ∙ ap Arrived e
 
-pub refused-in : (w : World) → SameIn w → Rest w → (d k x u : ℕ) → u < w .n → far (realMap w) d u ≡ Never → travels (suc k) w d x u ≡ Refused u
+refused-in : (w : World) → SameIn w → Rest w → (d k x u : ℕ) → u < w .n → far (realMap w) d u ≡ Never → travels (suc k) w d x u ≡ Refused u
 refused-in w same r d k x u l h =
     let ne : eqb u d ≡ false = ne-eqb u d (λ e. never-at 0 (sym h ∙ ap (λ (y : ℕ). far (realMap w) d y) e ∙ far-self (realMap w) d)) in
     travels-no k w d x u ne (own-hop w same r d u l ∙ hop-never (realMap w) d u h)

@@ -1,5 +1,4 @@
 -- At rest each router's map has, of all that can be reached from it, just the real roads. That the same number and tag are the same words is taken as an argument.
--- Assumes nothing.
 use mathlib.Core.Path.{_≡_, refl, sym, _∙_, ap, ap₂, subst}
 use mathlib.Core.Bool.{Bool, true, false, cond}
 use mathlib.Core.List.{List}
@@ -7,7 +6,7 @@ use mathlib.Core.Logic.{_⊎_, inl, inr}
 use Prim.Native.Nat.{ℕ, _<_}
 use native.Mathlib.Omega.{arith}
 use lib.Dec.{ltb, T}
-use borrow.Author.Tests.{ltb-true, ltb-false, lt-ltb}
+use Rattle.std.proofs.shelf.Tests.{ltb-true, ltb-false, lt-ltb}
 use Rattle.model.specs.Map.{far, hop}
 use Rattle.model.specs.Words.{World, Ev, world}
 use Rattle.model.specs.Forward.{mapOf, realMap}
@@ -33,28 +32,29 @@ open-road x y h = go (ltb 0 x) refl h
     go false i p = absurd (omega arith)
 
 -- a and u know the same of all, and u has said what it is or is a
-pub record Alike (w : World) (a u : ℕ) : Type 0 where
-  pub number : (i : ℕ) → i < w .n → w .knows a i .number ≡ w .knows u i .number
-  pub tag : (i : ℕ) → i < w .n → w .knows a i .tag ≡ w .knows u i .tag
-  pub said : (a ≡ u) ⊎ (0 < w .knows u u .number)
+record Alike (w : World) (a u : ℕ) : Type 0 where
+  number : (i : ℕ) → i < w .n → w .knows a i .number ≡ w .knows u i .number
+  tag : (i : ℕ) → i < w .n → w .knows a i .tag ≡ w .knows u i .tag
+  said : (a ≡ u) ⊎ (0 < w .knows u u .number)
 
-pub alike-self : (w : World) (a : ℕ) → Alike w a a
+alike-self : (w : World) (a : ℕ) → Alike w a a
 alike-self w a = record { number = λ i l. refl; tag = λ i l. refl; said = inl refl }
 
 -- kept over a road that counts
-pub alike-on : (w : World) → Rest w → (a u e : ℕ) → u < w .n → e < w .n → 0 < realMap w .cost u e → Alike w a u → Alike w a e
+alike-on : (w : World) → Rest w → (a u e : ℕ) → u < w .n → e < w .n → 0 < realMap w .cost u e → Alike w a u → Alike w a e
 alike-on w r a u e l m p k =
     let o = open-road (w .real e u) (w .real u e) p in
     record {
       number = λ i h. k .number i h ∙ r .alike u e i l m h (o .1) (o .0) .0;
       tag = λ i h. k .tag i h ∙ r .alike u e i l m h (o .1) (o .0) .1;
-      said = inr (r .said e u m l (o .0) (o .1)) }
+      said = inr (r .said e u m l (o .0) (o .1));
+    }
 
-pub alike-all : (w : World) → Rest w → (a u : ℕ) → a < w .n → T (reached (realMap w) a u) → Alike w a u
+alike-all : (w : World) → Rest w → (a u : ℕ) → a < w .n → T (reached (realMap w) a u) → Alike w a u
 alike-all w r a u l t = reach-all (realMap w) (Alike w a) (λ u e m o p k. alike-on w r a u e m o p k) a u l t (alike-self w a)
 
 -- what a has of u is so
-pub knows-true : (w : World) → SameIn w → Rest w → (a u x : ℕ) → a < w .n → u < w .n → x < w .n → T (reached (realMap w) a u) → w .knows a u .road x ≡ w .real u x
+knows-true : (w : World) → SameIn w → Rest w → (a u x : ℕ) → a < w .n → u < w .n → x < w .n → T (reached (realMap w) a u) → w .knows a u .road x ≡ w .real u x
 knows-true w same r a u x l m o t = go (alike-all w r a u l t .said)
   where
     go : (a ≡ u) ⊎ (0 < w .knows u u .number) → w .knows a u .road x ≡ w .real u x
@@ -72,11 +72,12 @@ none-none false true x y p q = sym q
 none-none false false x y p q = refl
 
 -- so its roads from u are the real ones
-pub cost-true : (w : World) → SameIn w → Rest w → (a u e : ℕ) → a < w .n → u < w .n → e < w .n → T (reached (realMap w) a u) → mapOf w a .cost u e ≡ realMap w .cost u e
+cost-true : (w : World) → SameIn w → Rest w → (a u e : ℕ) → a < w .n → u < w .n → e < w .n → T (reached (realMap w) a u) → mapOf w a .cost u e ≡ realMap w .cost u e
 cost-true w same r a u e l m o t = go (ltb 0 (w .real u e)) refl
   where
     here : w .knows a u .road e ≡ w .real u e
     here = knows-true w same r a u e l m o t
+
     go : (b : Bool) → ltb 0 (w .real u e) ≡ b → mapOf w a .cost u e ≡ realMap w .cost u e
     go true i =
         let p : 0 < w .real u e = ltb-true 0 (w .real u e) i in
@@ -90,11 +91,12 @@ cost-true w same r a u e l m o t = go (ltb 0 (w .real u e)) refl
         none-none (ltb 0 (w .knows a e .road u)) (ltb 0 (w .real e u)) (w .knows a u .road e) (w .real u e) (here ∙ z) z
 
 -- and the two maps agree on what can be reached
-pub rest-agree : (w : World) → SameIn w → Rest w → (a : ℕ) → a < w .n → Agree (mapOf w a) (realMap w) (reached (realMap w) a)
+rest-agree : (w : World) → SameIn w → Rest w → (a : ℕ) → a < w .n → Agree (mapOf w a) (realMap w) (reached (realMap w) a)
 rest-agree w same r a l = record {
-    size = refl;
-    same = λ u e t m o. cost-true w same r a u e l m o t;
-    closed = λ u e t m o p. reach-on (realMap w) a u e l o t p }
+  size = refl;
+  same = λ u e t m o. cost-true w same r a u e l m o t;
+  closed = λ u e t m o p. reach-on (realMap w) a u e l o t p;
+}
 
 pub hops-in : (w : World) → SameIn w → Rest w → (a d u : ℕ) → a < w .n → u < w .n → T (reached (realMap w) a u) →
     (hop (mapOf w a) d u ≡ hop (realMap w) d u) × (far (mapOf w a) d u ≡ far (realMap w) d u)

@@ -1,73 +1,36 @@
--- Tests of all numbers below n, and tests as facts. Assumes nothing.
-use mathlib.Core.Path.{_≡_, refl, sym, subst}
-use mathlib.Core.Bool.{Bool, true, false, _&&_, _||_, not}
-use mathlib.Core.Logic.{_⊎_, inl, inr}
-use Prim.Native.Nat.{ℕ, zero, suc, _<_}
+-- What holds of all numbers below n, and as a test; finding one that passes, and bounding.
+use mathlib.Core.Path.{_≡_, sym, subst}
+use mathlib.Core.Bool.{Bool, true, false, _&&_, _||_}
+use mathlib.Core.Logic.{_⊎_, inl, inr, ⊎-elim}
+use Prim.Native.Nat.{ℕ, zero, suc, _<_, _+_, _≤_}
 use native.Mathlib.Omega.{arith}
 use lib.Dec.{T}
-use Rattle.std.proofs.shelf.Tests.{cases-eq}
+use Rattle.std.proofs.shelf.Tests.{cases-eq, cases-bool}
 use Rattle.model.specs.Promise.{allBelow}
+use Rattle.model.proofs.Tests.{both-t, left-t, right-t, or-t, or-t-left, or-t-right, same-t}
 
-pub t-true : (b : Bool) → T b → b ≡ true
-t-true true h = refl
-t-true false h = absurd h
+-- what holds below n and at n holds below suc n
+pub below-suc : (A : ℕ → Type 0) (n : ℕ) → ((p : ℕ) → p < n → A p) → A n → (p : ℕ) → p < suc n → A p
+below-suc A n h k p l = ⊎-elim (λ e. subst A (sym e) k) (λ ne. h p (omega arith)) (cases-eq p n)
 
-pub true-t : (b : Bool) → b ≡ true → T b
-true-t b e = subst T (sym e) tt
+-- each below n is an A, unless there is a B
+pub each-or : (n : ℕ) (A : ℕ → Type 0) (B : Type 0) → ((p : ℕ) → p < n → A p ⊎ B) → ((p : ℕ) → p < n → A p) ⊎ B
+each-or zero A B d = inl (λ p l. let z : ⊥ = omega arith in absurd z)
+each-or (suc n) A B d = ⊎-elim (λ h. ⊎-elim (λ a. inl (below-suc A n h a)) inr (d n (omega arith))) inr (each-or n A B (λ p l. d p (omega arith)))
 
-pub both-t : (x y : Bool) → T x → T y → T (x && y)
-both-t true y p q = q
-both-t false y p q = p
-
-pub left-t : (x y : Bool) → T (x && y) → T x
-left-t true y p = tt
-left-t false y p = p
-
-pub right-t : (x y : Bool) → T (x && y) → T y
-right-t true y p = p
-right-t false y p = absurd p
-
--- a test that holds where another does, and back
-pub same-t : (x y : Bool) → (T x → T y) → (T y → T x) → x ≡ y
-same-t true true f g = refl
-same-t true false f g = absurd (f tt)
-same-t false true f g = absurd (g tt)
-same-t false false f g = refl
-
--- either not a, or b
-pub since-t : (a b : Bool) → (T a → T b) → T (not a || b)
-since-t true b f = f tt
-since-t false b f = tt
-
-pub t-since : (a b : Bool) → T (not a || b) → T a → T b
-t-since true b h t = h
-t-since false b h t = absurd t
+-- some p below n passes, or none does
+pub find : (n : ℕ) (f : ℕ → Bool) → ((p : ℕ) × (p < n) × (f p ≡ true)) ⊎ ((p : ℕ) → p < n → f p ≡ false)
+find n f = ⊎-elim inr inl (each-or n (λ p. f p ≡ false) ((p : ℕ) × (p < n) × (f p ≡ true)) (λ p l. ⊎-elim (λ e. inr (p, l, e)) inl (cases-bool (f p))))
 
 pub below-so : (n : ℕ) (f : ℕ → Bool) → T (allBelow n f) → (x : ℕ) → x < n → T (f x)
 unfolding allBelow
 below-so zero f h x l = absurd (let k : ⊥ = omega arith in k)
-below-so (suc n) f h x l = go (cases-eq x n) (below-so n f (right-t (f n) (allBelow n f) h) x)
-  where
-    go : (x ≡ n) ⊎ (x ≡ n → ⊥) → (x < n → T (f x)) → T (f x)
-    go (inl e) k = subst (λ (y : ℕ). T (f y)) (sym e) (left-t (f n) (allBelow n f) h)
-    go (inr ne) k = k (omega arith)
+below-so (suc n) f h x l = below-suc (λ y. T (f y)) n (below-so n f (right-t (f n) (allBelow n f) h)) (left-t (f n) (allBelow n f) h) x l
 
 pub so-below : (n : ℕ) (f : ℕ → Bool) → ((x : ℕ) → x < n → T (f x)) → T (allBelow n f)
 unfolding allBelow
 so-below zero f h = tt
 so-below (suc n) f h = both-t (f n) (allBelow n f) (h n (omega arith)) (so-below n f (λ x l. h x (omega arith)))
-
-pub or-t : (x y : Bool) → T (x || y) → T x ⊎ T y
-or-t true y h = inl tt
-or-t false y h = inr h
-
-pub or-t-left : (x y : Bool) → T x → T (x || y)
-or-t-left true y h = tt
-or-t-left false y h = absurd h
-
-pub or-t-right : (x y : Bool) → T y → T (x || y)
-or-t-right true y h = tt
-or-t-right false y h = h
 
 -- what does not hang on the number leaves the test
 below-or : (n : ℕ) (g : ℕ → Bool) (c : Bool) → ((x : ℕ) → x < n → T (g x || c)) → T (allBelow n g || c)
@@ -89,3 +52,8 @@ pub below-split : (n : ℕ) (f g : ℕ → Bool) (c : Bool) → allBelow n (λ x
 below-split n f g c = same-t (allBelow n (λ x. f x && (g x || c))) (allBelow n f && (allBelow n g || c))
     (λ h. both-t (allBelow n f) (allBelow n g || c) (so-below n f (λ x l. left-t (f x) (g x || c) (below-so n (λ x. f x && (g x || c)) h x l))) (below-or n g c (λ x l. right-t (f x) (g x || c) (below-so n (λ x. f x && (g x || c)) h x l))))
     (λ h. so-below n (λ x. f x && (g x || c)) (λ x l. both-t (f x) (g x || c) (below-so n f (left-t (allBelow n f) (allBelow n g || c) h) x l) (or-below n g c (right-t (allBelow n f) (allBelow n g || c) h) x l)))
+
+-- a number that none below n exceeds
+pub bound : (n : ℕ) (f : ℕ → ℕ) → (m : ℕ) × ((p : ℕ) → p < n → f p ≤ m)
+bound zero f = (0, λ p l. omega arith)
+bound (suc n) f = let r = bound n f in (r .0 + f n, below-suc (λ p. f p ≤ r .0 + f n) n (λ p l. omega (arith, r .1 p l)) (omega arith))

@@ -1,5 +1,4 @@
 -- Two maps that agree on a part which no road leaves have the same distances, next places, trails and ways there.
--- Assumes nothing.
 use mathlib.Core.Path.{_≡_, refl, sym, _∙_, ap, ap₂}
 use mathlib.Core.Bool.{Bool, true, false, cond, _&&_}
 use mathlib.Core.List.{List, [], _∷_}
@@ -62,7 +61,7 @@ module _ (y z : Map) (part : ℕ → Bool) (g : Agree y z part) where
   within-same zero d a t l = refl
   within-same (suc k) d a t l =
       ap (λ (f : Far). lower (home d a) f)
-        (ap (λ (i : ℕ). lowest y (λ e. within k y d e) a i) (g .size) ∙ lowest-same (λ e. within k y d e) (λ e. within k z d e) (λ e s m. within-same k d e s m) a (z .n) t l (le-refl (z .n)))
+      (ap (λ (i : ℕ). lowest y (λ e. within k y d e) a i) (g .size) ∙ lowest-same (λ e. within k y d e) (λ e. within k z d e) (λ e s m. within-same k d e s m) a (z .n) t l (le-refl (z .n)))
 
   pub far-same : (d a : ℕ) → T (part a) → a < z .n → far y d a ≡ far z d a
   far-same d a t l = ap (λ (i : ℕ). within i y d a) (g .size) ∙ within-same (z .n) d a t l
@@ -89,7 +88,7 @@ module _ (y z : Map) (part : ℕ → Bool) (g : Agree y z part) where
   trail-same zero d a t l = refl
   trail-same (suc k) d a t l =
       ap (λ (ws : List ℕ). cond (eqb a d) [] ws)
-        (ap (λ (h : Hop). trailOn (λ e. trail k (hop y d) d e) h) (hop-same d a t l) ∙ go (hop z d a) refl (λ v s m. trail-same k d v s m))
+      (ap (λ (h : Hop). trailOn (λ e. trail k (hop y d) d e) h) (hop-same d a t l) ∙ go (hop z d a) refl (λ v s m. trail-same k d v s m))
     where
       go : (h : Hop) → hop z d a ≡ h → ((v : ℕ) → T (part v) → v < z .n → trail k (hop y d) d v ≡ trail k (hop z d) d v) → trailOn (λ e. trail k (hop y d) d e) h ≡ trailOn (λ e. trail k (hop z d) d e) h
       go Nowhere e r = refl
@@ -100,8 +99,8 @@ module _ (y z : Map) (part : ℕ → Bool) (g : Agree y z part) where
   way-same a [] t l = refl
   way-same a (x ∷ xs) t l =
       tests-same (ltb x (y .n)) (ltb x (z .n)) (ltb 0 (y .cost a x)) (ltb 0 (z .cost a x)) (isWay y x xs) (isWay z x xs) (ap (λ (i : ℕ). ltb x i) (g .size))
-        (λ m. ap (λ (c : ℕ). ltb 0 c) (g .same a x t l (ltb→lt x (z .n) m)))
-        (λ m p. way-same x xs (g .closed a x t l (ltb→lt x (z .n) m) (ltb→lt 0 (z .cost a x) p)) (ltb→lt x (z .n) m))
+      (λ m. ap (λ (c : ℕ). ltb 0 c) (g .same a x t l (ltb→lt x (z .n) m)))
+      (λ m p. way-same x xs (g .closed a x t l (ltb→lt x (z .n) m) (ltb→lt 0 (z .cost a x) p)) (ltb→lt x (z .n) m))
 
   pub cost-same : (a : ℕ) (ws : List ℕ) → T (part a) → a < z .n → T (isWay z a ws) → costOf y a ws ≡ costOf z a ws
   unfolding costOf

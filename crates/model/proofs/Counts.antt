@@ -1,11 +1,10 @@
 -- How many places below a number have a Boolean property.
--- Assumes nothing.
 use mathlib.Core.Path.{_≡_, refl, subst}
 use mathlib.Core.Bool.{Bool, true, false, cond}
 use Prim.Native.Nat.{ℕ, zero, suc, _+_, _<_, _≤_, zero-le}
 use native.Mathlib.Omega.{arith}
 use lib.Dec.{eqb, T}
-use borrow.Author.Tests.{eqb-true, eqb-false}
+use Rattle.std.proofs.shelf.Tests.{eqb-true, eqb-false}
 
 -- a test counts for one if it passes
 abbrev pub one : Bool → ℕ
@@ -19,6 +18,12 @@ pub one-mono : (p q : Bool) → (T p → T q) → one p ≤ one q
 one-mono true true h = omega arith
 one-mono true false h = absurd (h tt)
 one-mono false q h = zero-le
+
+-- a test that passes when there is nothing counts for no more than there is if it fails
+pub fails-le : (b : Bool) (k : ℕ) → (k ≡ 0 → T b) → cond b 0 1 ≤ k
+fails-le true k h = zero-le
+fails-le false zero h = absurd (h refl)
+fails-le false (suc k) h = omega arith
 
 -- how many of 0 to n - 1 have it
 unfoldable pub count : ℕ → (ℕ → Bool) → ℕ

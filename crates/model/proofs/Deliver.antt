@@ -27,9 +27,9 @@ unfolding follows travels
 same-way n w b m like zero d c u l = refl
 same-way n w b m like (suc k) d c u l =
     ap (λ (e : End). cond (eqb u d) (Arrived c) e)
-      (ap (λ (h : Hop). handedOn (λ x v. follows k b d x v) (b u) c u h) (like-hands n u w (b u) d m (like u l))
-        ∙ same-onward n u w (b u) (λ x v. follows k b d x v) (λ x v. travels k w d x v) c (hop (mapOf w u) d u) (like u l)
-          (λ x v h. same-way n w b m like k d x v (subst (λ i. v < i) m (hop-to (mapOf w u) d u v h .0))))
+    (ap (λ (h : Hop). handedOn (λ x v. follows k b d x v) (b u) c u h) (like-hands n u w (b u) d m (like u l))
+    ∙ same-onward n u w (b u) (λ x v. follows k b d x v) (λ x v. travels k w d x v) c (hop (mapOf w u) d u) (like u l)
+    (λ x v h. same-way n w b m like k d x v (subst (λ i. v < i) m (hop-to (mapOf w u) d u v h .0))))
 
 pub boxes-deliver : BoxesDeliver
 boxes-deliver n es b stands rest u d lu ld =

@@ -1,20 +1,23 @@
--- What a world of routers does, as the net that mirrors it: who owes, what goes by rule, and what is new. Assumes nothing.
+-- What a world of routers does, as the net that mirrors it: who owes, what goes by rule, and what is new.
 use mathlib.Core.Path.{_≡_, refl, sym, ap, subst, ap₂, _∙_}
 use mathlib.Core.Bool.{Bool, true, _&&_, _||_, not}
 use mathlib.Core.List.{List, [], _∷_, _++_, map}
-use Prim.Native.Nat.{ℕ, zero, suc, _<_}
+use Prim.Native.Nat.{ℕ, zero, suc, _<_, _≤_}
 use lib.ListN.{length}
 use lib.Dec.{eqb, ltb, T, eqb→eq, ltb→lt, eqb-refl}
+use native.Mathlib.Omega.{arith}
 use Rattle.std.proofs.shelf.Tests.{eq-eqb}
 use Rattle.model.specs.Words.{Word, World, Ev, Road, Says, Sends, Comes, Falls, world, isIn}
 use Rattle.model.specs.Promise
-use Rattle.model.specs.Promise.{allBelow, ownTrue, byRule, goes, newNth}
+use Rattle.model.specs.Promise.{allBelow, ownTrue, byRule, goes, newNth, newWords}
 use Rattle.model.specs.Flood.{Copy, Setup, Net, Act, Turns, Speaks, Tells, Gets, Back, net}
-use Rattle.model.specs.Spread.{owes, byRuleFor, isNew, isNews, newsNth}
+use Rattle.model.specs.Spread.{owes, byRuleFor, isNew, isNews, newsNth, news}
 use Rattle.model.specs.Roads.{copyOf, actOf, actsOf, OfRoads, Mirrors}
-use Rattle.model.proofs.Below.{t-true, true-t, both-t, left-t, right-t, or-t-right, t-since, below-split}
-use Rattle.model.proofs.Resting.{world-n}
-use Rattle.model.proofs.Ruled.{AllBelow}
+use Rattle.model.proofs.Tests.{t-true, true-t, both-t, left-t, right-t, or-t-right, t-since}
+use Rattle.model.proofs.Below.{below-split}
+use Rattle.model.proofs.Sizes.{world-n}
+use Rattle.model.proofs.WordsByRule.{AllBelow}
+use Rattle.model.proofs.Counts.{one-mono}
 
 -- the acts of fs, after es
 abbrev pub acts : ℕ → List Ev → List Ev → List (Act (ℕ → ℕ))
@@ -22,14 +25,14 @@ acts n [] es = []
 acts n (f ∷ fs) es = actOf (world n (fs ++ es)) f ∷ acts n fs es
 
 -- and with those of es they are all acts
-pub acts-join : (n : ℕ) (fs es : List Ev) → actsOf n (fs ++ es) ≡ acts n fs es ++ actsOf n es
+acts-join : (n : ℕ) (fs es : List Ev) → actsOf n (fs ++ es) ≡ acts n fs es ++ actsOf n es
 unfolding actsOf
 acts-join n [] es = refl
 acts-join n (f ∷ fs) es = ap (λ (xs : List (Act (ℕ → ℕ))). actOf (world n (fs ++ es)) f ∷ xs) (acts-join n fs es)
 
 module _ (n : ℕ) (s : Setup (ℕ → ℕ)) (o : OfRoads n s) where
   -- who speaks for a subject is the router of that number, and it owes when its word isn't so
-  pub owes-is : (w : World) (v : Net (ℕ → ℕ)) → w .n ≡ n → Mirrors w v → (a i : ℕ) → owes s v a i ≡ (eqb a i && not (allBelow n (λ x. eqb (w .knows a i .road x) (w .real a x) && (eqb (w .real a x) 0 || ltb 0 (w .knows a i .number)))))
+  owes-is : (w : World) (v : Net (ℕ → ℕ)) → w .n ≡ n → Mirrors w v → (a i : ℕ) → owes s v a i ≡ (eqb a i && not (allBelow n (λ x. eqb (w .knows a i .road x) (w .real a x) && (eqb (w .real a x) 0 || ltb 0 (w .knows a i .number)))))
   owes-is w v q m a i = rw (m .speaks a i, m .holds a i, m .would a i, o .same (w .knows a i .road) (w .real a), o .mute (w .real a)) (sym (ap (λ (c : Bool). eqb a i && not c) (below-split n (λ x. eqb (w .knows a i .road x) (w .real a x)) (λ x. eqb (w .real a x) 0) (ltb 0 (w .knows a i .number)))))
 
   -- at its own number, that is the test of its own word
@@ -62,7 +65,7 @@ module _ (n : ℕ) (s : Setup (ℕ → ℕ)) (o : OfRoads n s) where
   says-is w v q m i a t = let e = owes-own w v q m a in rw (e, o .boxes, o .subjects, m .drawn, q)
 
   -- what is new about some subject in the net is a new word
-  pub new-goes : (w : World) (v : Net (ℕ → ℕ)) → w .n ≡ n → Mirrors w v → (i : ℕ) (f : Ev) → T (isNew s i (actOf w f) v) → T (goes f w)
+  new-goes : (w : World) (v : Net (ℕ → ℕ)) → w .n ≡ n → Mirrors w v → (i : ℕ) (f : Ev) → T (isNew s i (actOf w f) v) → T (goes f w)
   new-goes w v q m i (Road a e c) h = absurd h
   new-goes w v q m i (Says a t) h = right-t (ltb a (w .n)) (ltb a (w .n) && (not (isIn t (w .drawn)) && not (ownTrue a w))) (right-t (eqb a i) (ltb a (w .n) && (ltb a (w .n) && (not (isIn t (w .drawn)) && not (ownTrue a w)))) (subst T (says-is w v q m i a t) h))
   new-goes w v q m i (Sends a e j) h = absurd h
@@ -85,6 +88,16 @@ module _ (n : ℕ) (s : Setup (ℕ → ℕ)) (o : OfRoads n s) (mir : (es : List
   -- the net mirrors the world after fs too
   pub mirrors-after : (fs es : List Ev) → Mirrors (world n (fs ++ es)) (net s (acts n fs es ++ actsOf n es))
   mirrors-after fs es = subst (λ (xs : List (Act (ℕ → ℕ))). Mirrors (world n (fs ++ es)) (net s xs)) (acts-join n fs es) (mir (fs ++ es))
+
+  -- what is new about one router is new
+  pub news-le : (i : ℕ) (fs es : List Ev) → news s i (acts n fs es) (actsOf n es) ≤ newWords n fs es
+  unfolding news newWords
+  news-le i [] es = omega arith
+  news-le i (f ∷ fs) es =
+      let w = world n (fs ++ es) in let v = net s (acts n fs es ++ actsOf n es) in
+      let k = news-le i fs es in
+      let h = one-mono (isNew s i (actOf w f) v) (goes f w) (new-goes n s o w v (world-n n (fs ++ es)) (mirrors-after fs es) i f) in
+      omega arith
 
   -- events by rule are acts by rule
   pub rule-for : (i : ℕ) (fs es : List Ev) → T (byRule n fs es) → T (byRuleFor s i (acts n fs es) (actsOf n es))

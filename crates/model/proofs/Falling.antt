@@ -6,18 +6,16 @@ use Prim.Native.Nat.{ℕ, zero, suc, _<_, _≤_}
 use native.Mathlib.Nat.{le-refl}
 use native.Mathlib.Omega.{arith}
 use lib.Dec.{eqb, ltb}
-use borrow.Author.Tests.{eqb-true, lt-ltb, ltb-true, ltb-false, eq-eqb, ne-eqb, le-ltb}
-use Rattle.std.proofs.shelf.Tests.{and-from, and-left, and-right}
+use Rattle.std.proofs.shelf.Tests.{eqb-true, lt-ltb, ltb-true, ltb-false, eq-eqb, ne-eqb, le-ltb, and-from, and-left, and-right, cond-true, cond-false}
 use Rattle.std.proofs.shelf.Ways.{tells}
 use Rattle.model.specs.Words.{World, Ev, Road, Comes, Falls, world}
 use Rattle.model.specs.Flood.{row}
 use Rattle.model.specs.Box.{Box, Stands, isOpen, roadIs, takes, forgets, fallen, closings}
 use Rattle.model.specs.Boxes.{TakesSo, FallSo}
-use Rattle.model.proofs.Tests.{of-cond, cond-true, cond-false}
-use Rattle.model.proofs.Sizes.{world-n}
+use Rattle.model.proofs.Tests.{of-cond}
+use Rattle.model.proofs.Sizes.{world-n, no-road}
 use Rattle.model.proofs.Rows.{Like, like-of, stands-of, like-road, like-falls, like-takes}
 use Rattle.model.proofs.BoxCode.{one-more, one-comes}
-use Rattle.model.proofs.Effects.{no-road}
 
 pub takes-so : TakesSo
 takes-so s es i t x st h here f =
@@ -62,8 +60,8 @@ closed-to s es st (suc k) l q = go (isOpen k s) refl (closed-to s es st k (omega
         let w : World = world (s .n) (closings s k ++ es) in
         let other : eqb (s .me) k ≡ false = ne-eqb (s .me) k (λ e. open-other s es st k (ltb-true 0 (s .cost k) o) e) in
         one-more (s .n) (s .me) (closings s k ++ es) (Road (s .me) k 0) (roadIs k 0 (boxOf (s .n) (s .me) w)) (like-road (s .n) (s .me) (st .is-one) w (world-n (s .n) (closings s k ++ es)) (boxOf (s .n) (s .me) w) k 0 (boxOf-like (s .n) (s .me) w)) .real q
-          ∙ (ap (λ (f : ℕ → ℕ). f q) (cond-true (ltb k (s .n) && not (eqb (s .me) k)) (row k 0 (w .real (s .me))) (w .real (s .me)) (and-from (ltb k (s .n)) (not (eqb (s .me) k)) (lt-ltb k (s .n) l) (ap not other)))
-          ∙ (ap (λ (x : ℕ). cond (eqb q k) 0 x) r ∙ closed-more q k (s .cost q)))
+        ∙ (ap (λ (f : ℕ → ℕ). f q) (cond-true (ltb k (s .n) && not (eqb (s .me) k)) (row k 0 (w .real (s .me))) (w .real (s .me)) (and-from (ltb k (s .n)) (not (eqb (s .me) k)) (lt-ltb k (s .n) l) (ap not other)))
+        ∙ (ap (λ (x : ℕ). cond (eqb q k) 0 x) r ∙ closed-more q k (s .cost q)))
     go false o r = r ∙ closed-had q k (s .cost q) (λ e. ap (s .cost) e ∙ (let z : s .cost k ≤ 0 = ltb-false 0 (s .cost k) o in omega arith))
 
 -- and of those that there are none is open

@@ -1,13 +1,11 @@
 -- A tag that was never drawn.
--- Assumes nothing.
 use mathlib.Core.Path.{_≡_, refl}
 use mathlib.Core.Bool.{false}
 use mathlib.Core.List.{List, [], _∷_}
 use Prim.Native.Nat.{ℕ, suc, _+_, _<_}
 use native.Mathlib.Omega.{arith}
 use lib.Dec.{eqb}
-use borrow.Author.Tests.{ne-eqb}
-use Rattle.std.proofs.shelf.Tests.{or-from}
+use Rattle.std.proofs.shelf.Tests.{ne-eqb, or-from}
 use Rattle.model.specs.Words.{isIn}
 
 abbrev total : List ℕ → ℕ

@@ -1,11 +1,11 @@
 -- The lowest next place on a least way is one policy.
--- Assumes nothing.
 use mathlib.Core.Path.{_≡_, refl, sym, _∙_, ap}
 use mathlib.Core.Bool.{Bool, true, false, cond, _&&_}
 use Prim.Native.Nat.{ℕ, zero, suc, _+_, _<_, _≤_, zero-le}
 use native.Mathlib.Omega.{arith}
 use lib.Dec.{eqb, T}
-use borrow.Author.Tests.{eqb-false, eq-eqb, clash}
+use borrow.Author.Tests.{clash}
+use Rattle.std.proofs.shelf.Tests.{eqb-false, eq-eqb}
 use Rattle.model.specs.Map.{Map, Far, Never, At, plus, far, Nowhere, To, hop, firstOf, hasWay, sameFar}
 use Rattle.model.specs.Ways.{Picks, HopPicks}
 use Rattle.model.proofs.Fars.{plus-inv, same-true, same-self}

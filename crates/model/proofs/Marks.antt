@@ -5,13 +5,12 @@ use mathlib.Core.Logic.{_⊎_, inl, inr}
 use Prim.Native.Nat.{ℕ, suc, _<_}
 use native.Mathlib.Omega.{arith}
 use lib.Dec.{eqb, ltb}
-use borrow.Author.Tests.{eqb-true, eq-eqb, ne-eqb, lt-ltb, not-true}
-use Rattle.std.proofs.shelf.Tests.{and-parts, and-from, and-left, or-cases}
+use Rattle.std.proofs.shelf.Tests.{eqb-true, eq-eqb, ne-eqb, lt-ltb, not-true, and-parts, and-from, and-left, or-cases, cond-true, cond-false, or-left, or-right}
 use Rattle.std.proofs.shelf.Ways.{tells}
 use Rattle.model.specs.Words.{Entry, Word, newer}
 use Rattle.model.specs.Code.{sameWord}
 use Rattle.model.specs.Box.{Box, isOpen, roadIs, has, ownWord, isNewTo, takes, sees, hears}
-use Rattle.model.proofs.Tests.{of-cond, cond-true, cond-false, and-second, or-left, or-right}
+use Rattle.model.proofs.Tests.{of-cond, and-second}
 
 pub same-self : (x : Entry) → sameWord x x ≡ true
 same-self x = and-from (eqb (x .number) (x .number)) (eqb (x .tag) (x .tag)) (eq-eqb (x .number) (x .number) refl) (eq-eqb (x .tag) (x .tag) refl)
@@ -67,23 +66,23 @@ taken x t s = has (x .about) (cond (eqb (s .me) (x .about)) (ownWord (x .entry .
 pub takes-mark : (s : Box) (x : Word) (t e i : ℕ) → takes x t s .shown e i ≡ true → (s .shown e i ≡ true) × (takes x t s .word i ≡ s .word i)
 takes-mark s x t e i h =
     of-cond (λ (v : Box). v .shown e i ≡ true → (s .shown e i ≡ true) × (v .word i ≡ s .word i)) (isNewTo x s) (taken x t s) s
-      (λ _. has-mark s (x .about) (cond (eqb (s .me) (x .about)) (ownWord (x .entry .number) t s) (x .entry)) e i) (λ _ g. (g, refl)) h
+    (λ _. has-mark s (x .about) (cond (eqb (s .me) (x .about)) (ownWord (x .entry .number) t s) (x .entry)) e i) (λ _ g. (g, refl)) h
 
 -- a word that is taken isn't the one that was had
 taken-other : (s : Box) (x : Word) (t : ℕ) → isNewTo x s ≡ true → sameWord (s .word (x .about)) (cond (eqb (s .me) (x .about)) (ownWord (x .entry .number) t s) (x .entry)) ≡ true → ⊥
 taken-other s x t h g =
     let n : newer (x .entry) (s .word (x .about)) ≡ true = and-second (isOpen (x .from) s) (newer (x .entry) (s .word (x .about))) h in
     of-cond (λ (y : Entry). sameWord (s .word (x .about)) y ≡ true → ⊥) (eqb (s .me) (x .about)) (ownWord (x .entry .number) t s) (x .entry)
-      (λ _. above-other (x .entry) (s .word (x .about)) (ownWord (x .entry .number) t s) n refl) (λ _. newer-other (x .entry) (s .word (x .about)) n) g
+    (λ _. above-other (x .entry) (s .word (x .about)) (ownWord (x .entry .number) t s) n refl) (λ _. newer-other (x .entry) (s .word (x .about)) n) g
 
 pub takes-keeps : (s : Box) (x : Word) (t e i : ℕ) → s .shown e i ≡ true → sameWord (s .word i) (takes x t s .word i) ≡ true → takes x t s .shown e i ≡ true
 takes-keeps s x t e i h g =
     of-cond (λ (v : Box). sameWord (s .word i) (v .word i) ≡ true → v .shown e i ≡ true) (isNewTo x s) (taken x t s) s
-      (λ new same. has-keeps s (x .about) (cond (eqb (s .me) (x .about)) (ownWord (x .entry .number) t s) (x .entry)) e i h
-        (λ at. taken-other s x t new
-          (subst (λ (k : ℕ). sameWord (s .word k) (cond (eqb (s .me) (x .about)) (ownWord (x .entry .number) t s) (x .entry)) ≡ true) at
-            (subst (λ (y : Entry). sameWord (s .word i) y ≡ true) (cond-true (eqb i (x .about)) (cond (eqb (s .me) (x .about)) (ownWord (x .entry .number) t s) (x .entry)) (s .word i) (eq-eqb i (x .about) at)) same))))
-      (λ _ _. h) g
+    (λ new same. has-keeps s (x .about) (cond (eqb (s .me) (x .about)) (ownWord (x .entry .number) t s) (x .entry)) e i h
+    (λ at. taken-other s x t new
+    (subst (λ (k : ℕ). sameWord (s .word k) (cond (eqb (s .me) (x .about)) (ownWord (x .entry .number) t s) (x .entry)) ≡ true) at
+    (subst (λ (y : Entry). sameWord (s .word i) y ≡ true) (cond-true (eqb i (x .about)) (cond (eqb (s .me) (x .about)) (ownWord (x .entry .number) t s) (x .entry)) (s .word i) (eq-eqb i (x .about) at)) same))))
+    (λ _ _. h) g
 
 -- a box that takes a word keeps its roads
 pub takes-cost : (s : Box) (x : Word) (t : ℕ) → takes x t s .cost ≡ s .cost
@@ -97,7 +96,7 @@ seen-for e f i j c t o g h =
     let r : (eqb c (g i .number) && eqb t (g i .tag)) ≡ true = and-second o (eqb c (g i .number) && eqb t (g i .tag)) (q .1) in
     let ji : j ≡ i = eqb-true j i (q .0) in
     and-from (eqb e f) (eqb i j && (eqb c (g j .number) && eqb t (g j .tag))) (eq-eqb e f (sym (eqb-true f e (p .0))))
-      (and-from (eqb i j) (eqb c (g j .number) && eqb t (g j .tag)) (eq-eqb i j (sym ji)) (subst (λ (k : ℕ). (eqb c (g k .number) && eqb t (g k .tag)) ≡ true) (sym ji) r))
+    (and-from (eqb i j) (eqb c (g j .number) && eqb t (g j .tag)) (eq-eqb i j (sym ji)) (subst (λ (k : ℕ). (eqb c (g k .number) && eqb t (g k .tag)) ≡ true) (sym ji) r))
 
 pub sees-mark : (s : Box) (k j c t e i : ℕ) → sees k j c t s .shown e i ≡ true → (s .shown e i || (eqb k e && (eqb j i && (eqb c (s .word i .number) && eqb t (s .word i .tag))))) ≡ true
 sees-mark s k j c t e i h =
@@ -112,9 +111,9 @@ sees-mark s k j c t e i h =
 pub sees-shows : (s : Box) (e i c t : ℕ) → 0 < s .cost e → (eqb c (s .word i .number) && eqb t (s .word i .tag)) ≡ true → sees e i c t s .shown e i ≡ true
 sees-shows s e i c t o h =
     or-right (s .shown e i) (eqb e e && (eqb i i && (isOpen e s && (eqb c (s .word i .number) && eqb t (s .word i .tag)))))
-      (and-from (eqb e e) (eqb i i && (isOpen e s && (eqb c (s .word i .number) && eqb t (s .word i .tag)))) (eq-eqb e e refl)
-        (and-from (eqb i i) (isOpen e s && (eqb c (s .word i .number) && eqb t (s .word i .tag))) (eq-eqb i i refl)
-          (and-from (isOpen e s) (eqb c (s .word i .number) && eqb t (s .word i .tag)) (lt-ltb 0 (s .cost e) o) h)))
+    (and-from (eqb e e) (eqb i i && (isOpen e s && (eqb c (s .word i .number) && eqb t (s .word i .tag)))) (eq-eqb e e refl)
+    (and-from (eqb i i) (isOpen e s && (eqb c (s .word i .number) && eqb t (s .word i .tag))) (eq-eqb i i refl)
+    (and-from (isOpen e s) (eqb c (s .word i .number) && eqb t (s .word i .tag)) (lt-ltb 0 (s .cost e) o) h)))
 
 pub sees-keeps : (s : Box) (k j c t e i : ℕ) → s .shown e i ≡ true → sees k j c t s .shown e i ≡ true
 sees-keeps s k j c t e i h = or-left (s .shown e i) (eqb e k && (eqb i j && (isOpen k s && (eqb c (s .word j .number) && eqb t (s .word j .tag))))) h
@@ -126,8 +125,10 @@ hears-mark s x t e i h =
   where
     old : Bool
     old = s .shown e i && sameWord (takes x t s .word i) (s .word i)
+
     new : Bool
     new = eqb (x .from) e && (eqb (x .about) i && sameWord (x .entry) (takes x t s .word i))
+
     go : (takes x t s .shown e i ≡ true) ⊎ (new ≡ true) → (old || new) ≡ true
     go (inl a) =
         let p = takes-mark s x t e i a in

@@ -4,7 +4,7 @@ use mathlib.Core.Bool.{false}
 use mathlib.Core.List.{List, [], _∷_, _++_}
 use Prim.Native.Nat.{ℕ, _<_}
 use native.Mathlib.Omega.{arith}
-use borrow.Author.Tests.{eqb-true}
+use Rattle.std.proofs.shelf.Tests.{eqb-true}
 use Rattle.model.specs.Words.{Entry, World, Ev, Road, Says, Sends, Comes, Falls, step, world}
 use Rattle.model.specs.Promise.{Onward, SameWords, OwnWords}
 use Rattle.model.specs.Settling.{OneTag}
@@ -46,8 +46,8 @@ one-tag n es a e i j hi hj same =
     let p : netAfter n es .holds a i ≡ itemOf (world n es .knows a i) = after n es .holds a i in
     let q : netAfter n es .holds e j ≡ itemOf (world n es .knows e j) = after n es .holds e j in
     let (ij, items) = one-tag-for (ℕ → ℕ) s (actsOf n es) a e i j
-          (subst (λ (x : Item (ℕ → ℕ)). 0 < x .number) (sym p) hi) (subst (λ (x : Item (ℕ → ℕ)). 0 < x .number) (sym q) hj)
-          (ap (λ (x : Item (ℕ → ℕ)). x .tag) p ∙ (same ∙ ap (λ (x : Item (ℕ → ℕ)). x .tag) (sym q))) in
+    (subst (λ (x : Item (ℕ → ℕ)). 0 < x .number) (sym p) hi) (subst (λ (x : Item (ℕ → ℕ)). 0 < x .number) (sym q) hj)
+    (ap (λ (x : Item (ℕ → ℕ)). x .tag) p ∙ (same ∙ ap (λ (x : Item (ℕ → ℕ)). x .tag) (sym q))) in
     (ij, ap entryOf (sym p ∙ (items ∙ q)))
 
 pub same-words : SameWords

@@ -1,5 +1,4 @@
 -- What can be reached from a place: closed under roads, and whatever holds of the place and is kept over roads holds of it.
--- Assumes nothing.
 use mathlib.Core.Path.{_≡_, sym, subst}
 use mathlib.Core.Bool.{Bool}
 use mathlib.Core.List.{List, [], _∷_}

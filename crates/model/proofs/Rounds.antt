@@ -1,12 +1,11 @@
 -- Rounds of least costs: what each has by the one before, that a later one is no higher, and ranks by distance.
--- Assumes nothing.
 use mathlib.Core.Path.{_≡_, refl, sym, _∙_, ap, subst}
 use mathlib.Core.Bool.{Bool, true, false, cond}
 use mathlib.Core.Logic.{_⊎_, inl, inr}
 use Prim.Native.Nat.{ℕ, zero, suc, _<_, _≤_}
 use native.Mathlib.Omega.{arith}
 use lib.Dec.{eqb, T}
-use borrow.Author.Tests.{eqb-true, eqb-false, eq-eqb}
+use Rattle.std.proofs.shelf.Tests.{eqb-true, eqb-false, eq-eqb}
 use Rattle.model.specs.Map.{Map, Far, Never, At, plus, lower, lowest, home, within}
 use Rattle.model.proofs.Counts.{count, count-lt, count-below}
 use Rattle.model.proofs.Fars.{atMost, most-refl, most-eq, most-trans, at-inj, never-at, lower-left, lower-right, lower-is, lower-mono, plus-mono, lessFar, less-self, less-trans}
@@ -62,7 +61,7 @@ pub within-road : (k : ℕ) (z : Map) (d a e : ℕ) → e < z .n → atMost (wit
 unfolding within
 within-road k z d a e l =
     most-trans (lower (home d a) (lowest z (λ x. within k z d x) a (z .n))) (lowest z (λ x. within k z d x) a (z .n)) (plus (z .cost a e) (within k z d e))
-      (lower-right (home d a) (lowest z (λ x. within k z d x) a (z .n))) (lowest-most z (λ x. within k z d x) a (z .n) e l)
+    (lower-right (home d a) (lowest z (λ x. within k z d x) a (z .n))) (lowest-most z (λ x. within k z d x) a (z .n) e l)
 
 -- a round is home, or a road and the round before from its end
 pub within-had : (k : ℕ) (z : Map) (d a c : ℕ) → within (suc k) z d a ≡ At c → ((a ≡ d) × (c ≡ 0)) ⊎ ((e : ℕ) × (e < z .n) × (plus (z .cost a e) (within k z d e) ≡ At c))
@@ -80,7 +79,7 @@ unfolding within
 within-more zero z d a = lower-left (home d a) (lowest z (λ e. within 0 z d e) a (z .n))
 within-more (suc k) z d a =
     lower-mono (home d a) (home d a) (lowest z (λ e. within (suc k) z d e) a (z .n)) (lowest z (λ e. within k z d e) a (z .n)) (most-refl (home d a))
-      (lowest-mono z (λ e. within (suc k) z d e) (λ e. within k z d e) a (z .n) (λ e l. within-more k z d e))
+    (lowest-mono z (λ e. within (suc k) z d e) (λ e. within k z d e) a (z .n) (λ e l. within-more k z d e))
 
 -- nor is any later one higher
 pub within-later : (j k : ℕ) (z : Map) (d a : ℕ) → k ≤ j → atMost (within j z d a) (within k z d a)

@@ -4,13 +4,16 @@ use mathlib.Core.Bool.{Bool, true, false, cond, _&&_, not}
 use mathlib.Core.List.{List, [], _∷_}
 use Prim.Native.Nat.{ℕ, zero, suc, _<_}
 use lib.Dec.{eqb, ltb}
-use borrow.Author.Tests.{eqb-true, eq-eqb, ne-eqb, lt-ltb}
+use Rattle.std.proofs.shelf.Tests.{eqb-true, eq-eqb, ne-eqb, lt-ltb, cond-true, cond-false}
 use Rattle.model.specs.Words.{Entry, Word, World, Ev, Road, Says, Sends, Comes, Falls, newer, unsaid, isIn, at2, ownEntry, with-knows, says, told, comes, comesNth, sends, step, world}
 use Rattle.model.specs.Code.{ofBox, nthIs}
 use Rattle.model.specs.Flood.{row}
 use Rattle.model.specs.Box.{Box, isOpen, roadIs, has, ownWord, saysNow, takes, sees, hears, forgets}
 use Rattle.model.specs.Boxes.{StandsAs}
-use Rattle.model.proofs.Tests.{of-cond, both-cond, cond-true, cond-false}
+use Rattle.model.proofs.Tests.{of-cond, both-cond}
+pub use Rattle.model.proofs.Events.{with-real}
+use Rattle.model.proofs.Events.{of-comes}
+pub use Rattle.model.proofs.Tables.{row-else, row-here, row-same}
 
 -- this box is router a of n as it is in this world
 pub record Like (n a : ℕ) (w : World) (s : Box) : Type 0 where
@@ -21,19 +24,22 @@ pub record Like (n a : ℕ) (w : World) (s : Box) : Type 0 where
 
 pub like-of : (n a : ℕ) (s : Box) (es : List Ev) → StandsAs n a s es → Like n a (world n es) s
 like-of n a s es (p, q, st) = record {
-    size = p; self = q;
-    real = λ e. subst₂ (λ (m b : ℕ). world m es .real b e ≡ s .cost e) p q (st .real e);
-    knows = λ i. subst₂ (λ (m b : ℕ). world m es .knows b i ≡ s .word i) p q (st .knows i) }
+  size = p;
+  self = q;
+  real = λ e. subst₂ (λ (m b : ℕ). world m es .real b e ≡ s .cost e) p q (st .real e);
+  knows = λ i. subst₂ (λ (m b : ℕ). world m es .knows b i ≡ s .word i) p q (st .knows i);
+}
 
 pub stands-of : (n a : ℕ) (s : Box) (es : List Ev) → a < n → Like n a (world n es) s → StandsAs n a s es
-stands-of n a s es l k = (k .size, k .self, record {
+stands-of n a s es l k = (
+  k .size,
+  k .self,
+  record {
     is-one = subst₂ (λ (m b : ℕ). b < m) (sym (k .size)) (sym (k .self)) l;
     real = λ e. subst₂ (λ (m b : ℕ). world m es .real b e ≡ s .cost e) (sym (k .size)) (sym (k .self)) (k .real e);
-    knows = λ i. subst₂ (λ (m b : ℕ). world m es .knows b i ≡ s .word i) (sym (k .size)) (sym (k .self)) (k .knows i) })
-
--- the world with these costs
-abbrev pub with-real : (ℕ → ℕ → ℕ) → World → World
-with-real r w = record { n = w .n; real = r; knows = w .knows; flight = w .flight; drawn = w .drawn }
+    knows = λ i. subst₂ (λ (m b : ℕ). world m es .knows b i ≡ s .word i) (sym (k .size)) (sym (k .self)) (k .knows i);
+  },
+)
 
 -- the word that comes is the one with this number
 pub nth-comes : (i t : ℕ) (x : Word) (xs : List Word) (w : World) → nthIs i x xs → comesNth i t xs w ≡ comes x t w
@@ -41,18 +47,6 @@ unfolding comesNth nthIs
 nth-comes i t x [] w h = absurd h
 nth-comes zero t x (y ∷ ys) w h = ap (λ (z : Word). comes z t w) (sym h)
 nth-comes (suc i) t x (y ∷ ys) w h = nth-comes i t x ys w h
-
--- in a row that is another's nothing changes
-pub row-else : {A : Type 0} (b j p q : ℕ) (x : A) (f : ℕ → ℕ → A) → eqb p b ≡ false → at2 b j x f p q ≡ f p q
-row-else b j p q x f h = ap (λ (c : Bool). cond (c && eqb q j) x (f p q)) h
-
--- in the row itself it is as in a table of one row
-pub row-here : {A : Type 0} (a j q : ℕ) (x : A) (f : ℕ → ℕ → A) → at2 a j x f a q ≡ row j x (f a) q
-row-here a j q x f = ap (λ (c : Bool). cond (c && eqb q j) x (f a q)) (eq-eqb a a refl)
-
--- a table of one row with the same in it
-pub row-same : {A : Type 0} (i j q : ℕ) (x y : A) (f g : ℕ → A) → i ≡ j → x ≡ y → f q ≡ g q → row i x f q ≡ row j y g q
-row-same i j q x y f g p r h = ap₂ (λ (k : ℕ) (z : _). cond (eqb q k) z (f q)) p r ∙ ap (λ (z : _). cond (eqb q j) y z) h
 
 -- two tests at once, or one after the other
 and-cond : {A : Type 0} (b c : Bool) (x y : A) → cond b (cond c x y) y ≡ cond (b && c) x y
@@ -74,13 +68,15 @@ module _ (n a : ℕ) (l : a < n) (w : World) (m : w .n ≡ n) where
 
   pub like-road : (s : Box) (e c : ℕ) → Like n a w s → Like n a (step (Road a e c) w) (roadIs e c s)
   like-road s e c k = record {
-      size = k .size; self = k .self;
-      real = λ q. both-cond (λ (u : World) (f : ℕ → ℕ). u .real a q ≡ f q) (ltb a (w .n) && (ltb e (w .n) && not (eqb a e))) (ltb e (s .n) && not (eqb (s .me) e))
+    size = k .size;
+    self = k .self;
+    real = λ q. both-cond (λ (u : World) (f : ℕ → ℕ). u .real a q ≡ f q) (ltb a (w .n) && (ltb e (w .n) && not (eqb a e))) (ltb e (s .n) && not (eqb (s .me) e))
         (with-real (at2 a e c (w .real)) w) w (row e c (s .cost)) (s .cost)
         (rw (inside, m, k .size, k .self) refl)
         (λ _. row-here a e q c (w .real) ∙ row-same e e q c c (w .real a) (s .cost) refl refl (k .real q))
         (λ _. k .real q);
-      knows = λ i. of-cond (λ (u : World). u .knows a i ≡ s .word i) (ltb a (w .n) && (ltb e (w .n) && not (eqb a e))) (with-real (at2 a e c (w .real)) w) w (λ _. k .knows i) (λ _. k .knows i) }
+    knows = λ i. of-cond (λ (u : World). u .knows a i ≡ s .word i) (ltb a (w .n) && (ltb e (w .n) && not (eqb a e))) (with-real (at2 a e c (w .real)) w) w (λ _. k .knows i) (λ _. k .knows i);
+  }
 
   -- what it says of its roads is the same
   own-same : (s : Box) (x y t : ℕ) → x ≡ y → Like n a w s → ownEntry a x t w ≡ ownWord y t s
@@ -93,8 +89,8 @@ module _ (n a : ℕ) (l : a < n) (w : World) (m : w .n ≡ n) where
   pub like-says : (s : Box) (t : ℕ) → isIn t (w .drawn) ≡ false → Like n a w s → Like n a (step (Says a t) w) (saysNow t s)
   like-says s t f k =
       subst (λ (u : World). Like n a u (saysNow t s)) (sym (cond-true (ltb a (w .n) && not (isIn t (w .drawn))) (says a t w) w (rw (inside, f) refl)))
-        (has-same s a (s .me) (ownEntry a (w .knows a a .number) t w) (ownWord (s .word (s .me) .number) t s) (t ∷ []) (sym (k .self))
-          (own-same s (w .knows a a .number) (s .word (s .me) .number) t (ap (λ (x : Entry). x .number) (k .knows a ∙ ap (s .word) (sym (k .self)))) k) k)
+      (has-same s a (s .me) (ownEntry a (w .knows a a .number) t w) (ownWord (s .word (s .me) .number) t s) (t ∷ []) (sym (k .self))
+      (own-same s (w .knows a a .number) (s .word (s .me) .number) t (ap (λ (x : Entry). x .number) (k .knows a ∙ ap (s .word) (sym (k .self)))) k) k)
 
   pub like-sends : (s : Box) (b e i : ℕ) → Like n a w s → Like n a (step (Sends b e i) w) s
   like-sends s b e i k = of-cond (λ (u : World). Like n a u s) (ltb b (w .n) && (ltb e (w .n) && (ltb i (w .n) && ltb 0 (w .real b e)))) (sends b e i w) w (λ _. same-row (sends b e i w) s (λ q. refl) (λ q. refl) k) (λ _. k)
@@ -102,34 +98,27 @@ module _ (n a : ℕ) (l : a < n) (w : World) (m : w .n ≡ n) where
   pub like-falls : (s : Box) → Like n a w s → Like n a (step (Falls a) w) (forgets s)
   like-falls s k =
       subst (λ (u : World). Like n a u (forgets s)) (sym (cond-true (ltb a (w .n)) (with-knows (λ p q. cond (eqb p a) unsaid (w .knows p q)) [] w) w inside))
-        (record { size = k .size; self = k .self; real = k .real; knows = λ i. cond-true (eqb a a) unsaid (w .knows a i) (eq-eqb a a refl) })
+      (record { size = k .size; self = k .self; real = k .real; knows = λ i. cond-true (eqb a a) unsaid (w .knows a i) (eq-eqb a a refl) })
 
   -- what another router does changes nothing here
   pub like-others : (s : Box) (e : Ev) → ofBox a e ≡ false → ((i t : ℕ) → e ≡ Comes i t → ⊥) → Like n a w s → Like n a (step e w) s
   like-others s (Road b e c) f h k =
       of-cond (λ (u : World). Like n a u s) (ltb b (w .n) && (ltb e (w .n) && not (eqb b e))) (with-real (at2 b e c (w .real)) w) w
-        (λ _. same-row (with-real (at2 b e c (w .real)) w) s (λ q. row-else b e a q c (w .real) f) (λ i. refl) k) (λ _. k)
+      (λ _. same-row (with-real (at2 b e c (w .real)) w) s (λ q. row-else b e a q c (w .real) f) (λ i. refl) k) (λ _. k)
   like-others s (Says b t) f h k =
       of-cond (λ (u : World). Like n a u s) (ltb b (w .n) && not (isIn t (w .drawn))) (says b t w) w
-        (λ _. same-row (says b t w) s (λ q. refl) (λ i. row-else b b a i (ownEntry b (w .knows b b .number) t w) (w .knows) f) k) (λ _. k)
+      (λ _. same-row (says b t w) s (λ q. refl) (λ i. row-else b b a i (ownEntry b (w .knows b b .number) t w) (w .knows) f) k) (λ _. k)
   like-others s (Sends b e i) f h k = like-sends s b e i k
   like-others s (Comes i t) f h k = absurd (h i t refl)
   like-others s (Falls b) f h k =
       of-cond (λ (u : World). Like n a u s) (ltb b (w .n)) (with-knows (λ p q. cond (eqb p b) unsaid (w .knows p q)) [] w) w
-        (λ _. same-row (with-knows (λ p q. cond (eqb p b) unsaid (w .knows p q)) [] w) s (λ q. refl) (λ i. cond-false (eqb a b) unsaid (w .knows a i) f) k) (λ _. k)
+      (λ _. same-row (with-knows (λ p q. cond (eqb p b) unsaid (w .knows p q)) [] w) s (λ q. refl) (λ i. cond-false (eqb a b) unsaid (w .knows a i) f) k) (λ _. k)
 
   -- a word that comes to another router
   pub like-else : (s : Box) (x : Word) (t : ℕ) → (x .to ≡ a → ⊥) → Like n a w s → Like n a (comes x t w) s
   like-else s x t h k =
       let f : eqb a (x .to) ≡ false = ne-eqb a (x .to) (λ e. h (sym e)) in
-      of-cond (λ (u : World). Like n a u s) (ltb 0 (w .real (x .to) (x .from)) && not (isIn t (w .drawn))) (told x t w) w
-        (λ _. of-cond (λ (u : World). Like n a u s) (newer (x .entry) (w .knows (x .to) (x .about)))
-          (cond (eqb (x .to) (x .about)) (with-knows (at2 (x .to) (x .to) (ownEntry (x .to) (x .entry .number) t w) (w .knows)) (t ∷ []) w) (with-knows (at2 (x .to) (x .about) (x .entry) (w .knows)) [] w)) w
-          (λ _. of-cond (λ (u : World). Like n a u s) (eqb (x .to) (x .about)) (with-knows (at2 (x .to) (x .to) (ownEntry (x .to) (x .entry .number) t w) (w .knows)) (t ∷ []) w) (with-knows (at2 (x .to) (x .about) (x .entry) (w .knows)) [] w)
-            (λ _. same-row (with-knows (at2 (x .to) (x .to) (ownEntry (x .to) (x .entry .number) t w) (w .knows)) (t ∷ []) w) s (λ q. refl) (λ i. row-else (x .to) (x .to) a i (ownEntry (x .to) (x .entry .number) t w) (w .knows) f) k)
-            (λ _. same-row (with-knows (at2 (x .to) (x .about) (x .entry) (w .knows)) [] w) s (λ q. refl) (λ i. row-else (x .to) (x .about) a i (x .entry) (w .knows) f) k))
-          (λ _. k))
-        (λ _. k)
+      of-comes (λ (u : World). Like n a u s) x t w k (λ i y ts. same-row (with-knows (at2 (x .to) i y (w .knows)) ts w) s (λ q. refl) (λ j. row-else (x .to) i a j y (w .knows) f) k)
 
   pub like-sees : (s : Box) (e i c t : ℕ) → Like n a w s → Like n a w (sees e i c t s)
   like-sees s e i c t k = record { size = k .size; self = k .self; real = k .real; knows = k .knows }
@@ -143,17 +132,17 @@ module _ (n a : ℕ) (l : a < n) (w : World) (m : w .n ≡ n) where
       let news : Box = has about (cond (eqb (s .me) about) mine y) s in
       let same-box : cond (isOpen from s) (cond (newer y (s .word about)) news s) s ≡ cond (isOpen from s && newer y (s .word about)) news s = and-cond (isOpen from s) (newer y (s .word about)) news s in
       subst (λ (v : Box). Like n a (comes (record { from = from; to = a; about = about; entry = y }) t w) v) same-box
-        (both-cond (Like n a) (ltb 0 (w .real a from) && not (isIn t (w .drawn))) (isOpen from s) (told (record { from = from; to = a; about = about; entry = y }) t w) w (cond (newer y (s .word about)) news s) s
-          (and-true (ltb 0 (w .real a from)) (not (isIn t (w .drawn))) (ap not f) ∙ ap (λ c. ltb 0 c) (k .real from))
-          (λ _. both-cond (Like n a) (newer y (w .knows a about)) (newer y (s .word about))
-            (cond (eqb a about) (with-knows (at2 a a own (w .knows)) (t ∷ []) w) (with-knows (at2 a about y (w .knows)) [] w)) w news s
-            (ap (λ (z : Entry). newer y z) (k .knows about))
-            (λ _. both-cond (λ (u : World) (z : Entry). Like n a u (has about z s)) (eqb a about) (eqb (s .me) about) (with-knows (at2 a a own (w .knows)) (t ∷ []) w) (with-knows (at2 a about y (w .knows)) [] w) mine y
-              (ap (λ b. eqb b about) (sym (k .self)))
-              (λ e. has-same s a about own mine (t ∷ []) (eqb-true a about e) (own-same s (y .number) (y .number) t refl k) k)
-              (λ _. has-same s about about y y [] refl refl k))
-            (λ _. k))
-          (λ _. k))
+      (both-cond (Like n a) (ltb 0 (w .real a from) && not (isIn t (w .drawn))) (isOpen from s) (told (record { from = from; to = a; about = about; entry = y }) t w) w (cond (newer y (s .word about)) news s) s
+      (and-true (ltb 0 (w .real a from)) (not (isIn t (w .drawn))) (ap not f) ∙ ap (λ c. ltb 0 c) (k .real from))
+      (λ _. both-cond (Like n a) (newer y (w .knows a about)) (newer y (s .word about))
+      (cond (eqb a about) (with-knows (at2 a a own (w .knows)) (t ∷ []) w) (with-knows (at2 a about y (w .knows)) [] w)) w news s
+      (ap (λ (z : Entry). newer y z) (k .knows about))
+      (λ _. both-cond (λ (u : World) (z : Entry). Like n a u (has about z s)) (eqb a about) (eqb (s .me) about) (with-knows (at2 a a own (w .knows)) (t ∷ []) w) (with-knows (at2 a about y (w .knows)) [] w) mine y
+      (ap (λ b. eqb b about) (sym (k .self)))
+      (λ e. has-same s a about own mine (t ∷ []) (eqb-true a about e) (own-same s (y .number) (y .number) t refl k) k)
+      (λ _. has-same s about about y y [] refl refl k))
+      (λ _. k))
+      (λ _. k))
 
   pub like-takes : (s : Box) (x : Word) (t : ℕ) → x .to ≡ a → isIn t (w .drawn) ≡ false → Like n a w s → Like n a (comes x t w) (takes x t s)
   like-takes s x t h f k =

@@ -1,5 +1,4 @@
 -- No round gains after as many as there are places; the equation of least costs, and what follows from it.
--- Assumes nothing.
 use mathlib.Core.Path.{_≡_, refl, sym, _∙_, ap, subst}
 use mathlib.Core.Logic.{inl, inr}
 use Prim.Native.Nat.{ℕ, zero, suc, _+_, _<_, _≤_}
@@ -25,7 +24,7 @@ nearer K z d a e c l h p =
 by-road : (m K : ℕ) (z : Map) (d a e c : ℕ) → e < z .n → atMost (within m z d e) (within K z d e) → plus (z .cost a e) (within K z d e) ≡ At c → atMost (within (suc m) z d a) (At c)
 by-road m K z d a e c l h p =
     subst (λ (f : Far). atMost (within (suc m) z d a) f) p
-      (most-trans (within (suc m) z d a) (plus (z .cost a e) (within m z d e)) (plus (z .cost a e) (within K z d e)) (within-road m z d a e l) (plus-mono (z .cost a e) (within m z d e) (within K z d e) h))
+    (most-trans (within (suc m) z d a) (plus (z .cost a e) (within m z d e)) (plus (z .cost a e) (within K z d e)) (within-road m z d a e l) (plus-mono (z .cost a e) (within m z d e) (within K z d e) h))
 
 -- home every round has nothing to pay
 at-home : (m : ℕ) (z : Map) (d a c : ℕ) → a ≡ d → c ≡ 0 → atMost (within m z d a) (At c)
@@ -47,9 +46,10 @@ by-rank (suc m) (suc K) z d a r = go (within (suc K) z d a) refl (by-rank m (suc
     go : (f : Far) → within (suc K) z d a ≡ f → ByRank m (suc K) z d → atMost (within (suc m) z d a) f
     go Never h b = tt
     go (At c) h b =
-        elim (within-had K z d a c h)
-          [ inl i ↦ at-home (suc m) z d a c (i .0) (i .1)
-          | inr i ↦ by-road m K z d a (i .0) c (i .1) (most-trans (within m z d (i .0)) (within (suc K) z d (i .0)) (within K z d (i .0)) (b (i .0) (omega (arith, nearer K z d a (i .0) c (i .1) h (i .2)))) (within-more K z d (i .0))) (i .2) ]
+        elim (within-had K z d a c h) [
+          | inl i ↦ at-home (suc m) z d a c (i .0) (i .1)
+          | inr i ↦ by-road m K z d a (i .0) c (i .1) (most-trans (within m z d (i .0)) (within (suc K) z d (i .0)) (within K z d (i .0)) (b (i .0) (omega (arith, nearer K z d a (i .0) c (i .1) h (i .2)))) (within-more K z d (i .0))) (i .2)
+        ]
 
 -- no round has less than as many as there are places
 pub settled : (z : Map) (d a K : ℕ) → a < z .n → atMost (far z d a) (within K z d a)
@@ -78,7 +78,7 @@ far-road z d a e l m = subst (λ (f : Far). atMost f (plus (z .cost a e) (far z 
 pub far-had : (z : Map) (d a c : ℕ) → a < z .n → (a ≡ d → ⊥) → far z d a ≡ At c → (e : ℕ) × (e < z .n) × (0 < z .cost a e) × (plus (z .cost a e) (far z d e) ≡ At c)
 far-had z d a c l ne h =
     elim (within-had (z .n) z d a c (sym (far-more z d a l) ∙ h))
-      [ inl i ↦ absurd (ne (i .0)) | inr i ↦ (i .0, i .1, plus-inv (z .cost a (i .0)) (far z d (i .0)) c (i .2) .2, i .2) ]
+    [ inl i ↦ absurd (ne (i .0)) | inr i ↦ (i .0, i .1, plus-inv (z .cost a (i .0)) (far z d (i .0)) c (i .2) .2, i .2) ]
 
 -- from where a road leads to where there is a way, there is a way
 pub far-back : (z : Map) (d a e : ℕ) → a < z .n → e < z .n → 0 < z .cost a e → T (hasWay (far z d e)) → T (hasWay (far z d a))

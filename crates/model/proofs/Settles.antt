@@ -1,27 +1,28 @@
 -- A run by rule, cut into fair stretches, comes to rest: a stretch in which nothing is new begins and ends at rest, and only so many acts are new.
 use mathlib.Core.Path.{_≡_, refl, sym, _∙_, ap, subst}
-use mathlib.Core.Bool.{Bool, true, false, cond, _&&_, _||_, not}
+use mathlib.Core.Bool.{Bool, true, false, cond}
 use mathlib.Core.List.{List, [], _∷_, _++_}
 use mathlib.Core.Logic.{_⊎_, inl, inr}
 use Prim.Native.Nat.{ℕ, zero, suc, _+_, _-_, _<_, _≤_}
 use native.Mathlib.Omega.{arith}
-use native.Mathlib.Nat.{zero-add, add-zero, add-suc}
-use borrow.Author.Tests.{eq-eqb, lt-ltb}
-use lib.Dec.{eqb, ltb, T}
+use lib.Dec.{T}
 use Rattle.model.specs.Words.{isIn}
 use Rattle.model.specs.Flood.{Item, fresher, Copy, Setup, Net, Act, Speaks, Gets, act, net}
 use Rattle.model.specs.Spread.{owes, Settled, settled, byRuleFor, isNews, newsNth, isNew, news, mostNews, copyIs, SpeaksIn, BroughtIn, FairFor, StretchFor, StretchesFor, joined, restless, between, SettlesFor, SettlesAtLastFor}
-use Rattle.model.proofs.Bools.{T-is, true-not-false, and-both, not-is}
-use Rattle.model.proofs.Fresh.{fresher-back}
-use Rattle.model.proofs.FloodStep.{Keeps, keeps-self, keeps-trans, Effect, Stays, Takes, Answers, Says, effect}
-use Rattle.model.proofs.FloodKeep.{keeps, rule-last, rule-join, rule-before, news-join}
+use Rattle.model.proofs.Tests.{true-not-false, none-fails}
+use Rattle.model.proofs.Fresh.{fresher-upto}
+use Rattle.model.proofs.OneAct.{Keeps, keeps-self, keeps-trans, Effect, Stays, Takes, Answers, Says, effect, copy-new, saying-new, keeps}
+use Rattle.model.proofs.ByRule.{rule-last, rule-join, rule-before, news-join}
 use Rattle.model.proofs.Quiet.{quiet-for, settled-test}
 use Rattle.model.proofs.Ends.{ends-for}
+use Rattle.model.proofs.Owing.{owes-same}
+use Rattle.model.proofs.AtLast.{at-last, between-join}
+use Rattle.model.proofs.Counts.{fails-le}
 
 -- of subject i all have what they had, and links, speakers and what they would say are as they were
-pub record Calm {P : Type 0} (i : ℕ) (w v : Net P) : Type 0 where
-  pub kept : Keeps w v
-  pub held : (a : ℕ) → v .holds a i ≡ w .holds a i
+record Calm {P : Type 0} (i : ℕ) (w v : Net P) : Type 0 where
+  kept : Keeps w v
+  held : (a : ℕ) → v .holds a i ≡ w .holds a i
 
 calm-effect : {P : Type 0} (s : Setup P) (i : ℕ) (w v : Net P) (new : Bool) → Effect s i w v new → new ≡ false → (a : ℕ) → v .holds a i ≡ w .holds a i
 calm-effect s i w v new (Stays e h) f = h
@@ -29,36 +30,33 @@ calm-effect s i w v new (Takes x e c m p) f = true-not-false new e f
 calm-effect s i w v new (Answers x y e c m d p) f = true-not-false new e f
 calm-effect s i w v new (Says a y e l o d p) f = true-not-false new e f
 
-none : (b : Bool) → _≡_ {A = ℕ} (cond b 1 0) 0 → b ≡ false
-none true e = absurd (omega arith)
-none false e = refl
-
 -- while nothing is new nothing changes
-pub calm : {P : Type 0} (s : Setup P) (i : ℕ) (fs es : List (Act P)) → T (byRuleFor s i fs es) → news s i fs es ≡ 0 → Calm i (net s es) (net s (fs ++ es))
+calm : {P : Type 0} (s : Setup P) (i : ℕ) (fs es : List (Act P)) → T (byRuleFor s i fs es) → news s i fs es ≡ 0 → Calm i (net s es) (net s (fs ++ es))
 unfolding net news
 calm s i [] es r e = record { kept = keeps-self (net s es); held = λ a. refl }
 calm {P} s i (f ∷ fs) es r e = go (calm s i fs es (rule-last s i f fs es r .1) (omega arith))
   where
     w : Net P
     w = net s (fs ++ es)
+
     go : Calm i (net s es) w → Calm i (net s es) (act s f w)
     go c = record {
-        kept = keeps-trans (c .kept) (keeps s i f w (rule-last s i f fs es r .0));
-        held = λ a. calm-effect s i w (act s f w) (isNew s i f w) (effect s i f w (rule-last s i f fs es r .0)) (none (isNew s i f w) (omega arith)) a ∙ c .held a }
+      kept = keeps-trans (c .kept) (keeps s i f w (rule-last s i f fs es r .0));
+      held = λ a. calm-effect s i w (act s f w) (isNew s i f w) (effect s i f w (rule-last s i f fs es r .0)) (none-fails (isNew s i f w) (omega arith)) a ∙ c .held a;
+    }
 
-pub calm-owes : {P : Type 0} (s : Setup P) (i : ℕ) (w v : Net P) → Calm i w v → (a : ℕ) → owes s v a i ≡ owes s w a i
-calm-owes {P} s i w v c a = ap (λ b. own b (v .holds a i) (v .would a i)) (ap (λ f. f a i) (c .kept .same-speaks)) ∙ ap (λ x. own (w .speaks a i) x (v .would a i)) (c .held a) ∙ ap (λ p. own (w .speaks a i) (w .holds a i) p) (ap (λ f. f a i) (c .kept .same-would))
-  where
-    own : Bool → Item P → P → Bool
-    own b x p = b && not (s .same (x .body) p && (s .mute p || ltb 0 (x .number)))
+calm-owes : {P : Type 0} (s : Setup P) (i : ℕ) (w v : Net P) → Calm i w v → (a : ℕ) → owes s v a i ≡ owes s w a i
+calm-owes s i w v c a = owes-same s w v a i (c .kept .same-speaks) (c .kept .same-would) (c .held a)
 
 -- rest stays where nothing changes
-pub calm-settled : {P : Type 0} (s : Setup P) (i : ℕ) (w v : Net P) → Calm i w v → Settled s w i → Settled s v i
+calm-settled : {P : Type 0} (s : Setup P) (i : ℕ) (w v : Net P) → Calm i w v → Settled s w i → Settled s v i
 calm-settled {P} s i w v c r = record {
-    own = λ a m. calm-owes s i w v c a ∙ r .own a m;
-    alike = λ a e m n p q. (
-        ap (λ (x : Item P). x .number) (c .held a) ∙ r .alike a e m n (link a e p) (link e a q) .0 ∙ ap (λ (x : Item P). x .number) (sym (c .held e)),
-        ap (λ (x : Item P). x .tag) (c .held a) ∙ r .alike a e m n (link a e p) (link e a q) .1 ∙ ap (λ (x : Item P). x .tag) (sym (c .held e))) }
+  own = λ a m. calm-owes s i w v c a ∙ r .own a m;
+  alike = λ a e m n p q. (
+    ap (λ (x : Item P). x .number) (c .held a) ∙ r .alike a e m n (link a e p) (link e a q) .0 ∙ ap (λ (x : Item P). x .number) (sym (c .held e)),
+    ap (λ (x : Item P). x .tag) (c .held a) ∙ r .alike a e m n (link a e p) (link e a q) .1 ∙ ap (λ (x : Item P). x .tag) (sym (c .held e)),
+  );
+}
   where
     link : (a e : ℕ) → v .link a e ≡ true → w .link a e ≡ true
     link a e p = sym (ap (λ f. f a e) (c .kept .same-link)) ∙ p
@@ -68,7 +66,7 @@ nothing-new : {P : Type 0} (s : Setup P) (i : ℕ) (later before es : List (Act 
 unfolding news
 nothing-new s i later before es f e =
     let j : news s i (later ++ (f ∷ before)) es ≡ news s i later ((f ∷ before) ++ es) + (news s i before es + cond (isNew s i f (net s (before ++ es))) 1 0) = news-join s i later (f ∷ before) es in
-    (omega arith, none (isNew s i f (net s (before ++ es))) (omega arith))
+    (omega arith, none-fails (isNew s i f (net s (before ++ es))) (omega arith))
 
 -- the act that comes at a place in a run in which nothing is new: what was so at the beginning is so there
 module _ {P : Type 0} (s : Setup P) (i : ℕ) (later before es : List (Act P)) (f : Act P) (r : T (byRuleFor s i (later ++ (f ∷ before)) es)) (e : news s i (later ++ (f ∷ before)) es ≡ 0) where
@@ -80,11 +78,8 @@ said-new : {P : Type 0} (s : Setup P) (a i : ℕ) (later before es : List (Act P
     isIn t (net s (before ++ es) .drawn) ≡ false → a < s .boxes → i < s .subjects → owes s (net s es) a i ≡ true → ⊥
 said-new {P} s a i later before es t r e d m k o =
     true-not-false (isNew s i (Speaks a i t) w)
-      (and-both (eqb i i) (ltb a (s .boxes) && (ltb i (s .subjects) && (not (isIn t (w .drawn)) && owes s w a i))) (eq-eqb i i refl)
-        (and-both (ltb a (s .boxes)) (ltb i (s .subjects) && (not (isIn t (w .drawn)) && owes s w a i)) (lt-ltb a (s .boxes) m)
-          (and-both (ltb i (s .subjects)) (not (isIn t (w .drawn)) && owes s w a i) (lt-ltb i (s .subjects) k)
-            (and-both (not (isIn t (w .drawn))) (owes s w a i) (not-is (isIn t (w .drawn)) d) (calm-owes s i (net s es) w (till s i later before es (Speaks a i t) r e) a ∙ o)))))
-      (nothing-new s i later before es (Speaks a i t) e .1)
+    (saying-new s a i t w m k d (calm-owes s i (net s es) w (till s i later before es (Speaks a i t) r e) a ∙ o))
+    (nothing-new s i later before es (Speaks a i t) e .1)
   where
     w : Net P
     w = net s (before ++ es)
@@ -101,18 +96,17 @@ brought-new : {P : Type 0} (s : Setup P) (i : ℕ) (later before es : List (Act 
     fresher (net s es .holds (x .from) i) (x .item) ≡ false → fresher (net s es .holds (x .from) i) (net s es .holds (x .to) i) ≡ true → ⊥
 brought-new {P} s i later before es k t x r e d h ab l u v =
     true-not-false (isNew s i (Gets k t) w)
-      (news-at w i k t x (w .flight) h ∙
-        and-both (eqb (x .about) i) (w .link (x .to) (x .from) && (not (isIn t (w .drawn)) && fresher (x .item) (w .holds (x .to) (x .about)))) (eq-eqb (x .about) i ab)
-          (and-both (w .link (x .to) (x .from)) (not (isIn t (w .drawn)) && fresher (x .item) (w .holds (x .to) (x .about))) (ap (λ f. f (x .to) (x .from)) (c .kept .same-link) ∙ l)
-            (and-both (not (isIn t (w .drawn))) (fresher (x .item) (w .holds (x .to) (x .about))) (not-is (isIn t (w .drawn)) d) new)))
-      (nothing-new s i later before es (Gets k t) e .1)
+    (news-at w i k t x (w .flight) h ∙ copy-new w i t x ab (ap (λ f. f (x .to) (x .from)) (c .kept .same-link) ∙ l) d new)
+    (nothing-new s i later before es (Gets k t) e .1)
   where
     w : Net P
     w = net s (before ++ es)
+
     c : Calm i (net s es) w
     c = till s i later before es (Gets k t) r e
+
     new : fresher (x .item) (w .holds (x .to) (x .about)) ≡ true
-    new = subst (λ (y : Item P). fresher (x .item) y ≡ true) (sym (ap (λ j. w .holds (x .to) j) ab ∙ c .held (x .to))) (fresher-back (net s es .holds (x .from) i) (net s es .holds (x .to) i) (x .item) v u)
+    new = subst (λ (y : Item P). fresher (x .item) y ≡ true) (sym (ap (λ j. w .holds (x .to) j) ab ∙ c .held (x .to))) (fresher-upto (net s es .holds (x .from) i) (x .item) (net s es .holds (x .to) i) v u)
 
 -- a fair stretch in which nothing is new begins at rest
 pub rest-before : {P : Type 0} (s : Setup P) (i : ℕ) (fs es : List (Act P)) → i < s .subjects → StretchFor s i fs es → news s i fs es ≡ 0 → Settled s (net s es) i
@@ -120,6 +114,7 @@ rest-before {P} s i fs es k st e = go (st .1)
   where
     w : Net P
     w = net s es
+
     go : (0 < news s i fs es) ⊎ FairFor s i fs es → Settled s w i
     go (inl h) = absurd (omega arith)
     go (inr fair) = quiet-for P s w i (λ a b m n p q. same a b m n p q (fresher (w .holds a i) (w .holds b i)) refl) (λ a m. mute a m (owes s w a i) refl)
@@ -129,13 +124,14 @@ rest-before {P} s i fs es k st e = go (st .1)
             let q : SpeaksIn s a i fs es = fair .says a m o in
             absurd (said-new s a i (q .later) (q .before) es (q .tag) (subst (λ l. T (byRuleFor s i l es)) (q .split) (st .0)) (subst (λ l. news s i l es ≡ 0) (q .split) e) (q .drawn-once) m k o)
         mute a m false o = refl
+
         same : (a b : ℕ) → a < s .boxes → b < s .boxes → w .link a b ≡ true → w .link b a ≡ true → (c : Bool) → fresher (w .holds a i) (w .holds b i) ≡ c → c ≡ false
         same a b m n p q true f =
             let z : BroughtIn s a b i fs es = fair .brings a b m n p q f in
             absurd (brought-new s i (z .later) (z .before) es (z .which) (z .tag) (z .copy) (subst (λ l. T (byRuleFor s i l es)) (z .split) (st .0)) (subst (λ l. news s i l es ≡ 0) (z .split) e) (z .drawn-once) (z .there) (z .is-about)
-              (ap (λ u. w .link u (z .copy .from)) (z .is-to) ∙ ap (λ u. w .link b u) (z .is-from) ∙ q)
-              (ap (λ u. fresher (w .holds u i) (z .copy .item)) (z .is-from) ∙ z .not-older)
-              (ap (λ u. fresher (w .holds u i) (w .holds (z .copy .to) i)) (z .is-from) ∙ ap (λ u. fresher (w .holds a i) (w .holds u i)) (z .is-to) ∙ f))
+            (ap (λ u. w .link u (z .copy .from)) (z .is-to) ∙ ap (λ u. w .link b u) (z .is-from) ∙ q)
+            (ap (λ u. fresher (w .holds u i) (z .copy .item)) (z .is-from) ∙ z .not-older)
+            (ap (λ u. fresher (w .holds u i) (w .holds (z .copy .to) i)) (z .is-from) ∙ ap (λ u. fresher (w .holds a i) (w .holds u i)) (z .is-to) ∙ f))
         same a b m n p q false f = refl
 
 -- and ends at rest
@@ -154,17 +150,11 @@ restless-news s i [] es k h = omega arith
 restless-news {P} s i (fs ∷ fss) es k h =
     let r : restless s i fss es ≤ news s i (joined fss) es = restless-news s i fss es k (h .1) in
     let j : news s i (fs ++ joined fss) es ≡ news s i fs (joined fss ++ es) + news s i (joined fss) es = news-join s i fs (joined fss) es in
-    let o : cond (settled s w i) 0 1 ≤ news s i fs (joined fss ++ es) = one (news s i fs (joined fss ++ es)) refl in
+    let o : cond (settled s w i) 0 1 ≤ news s i fs (joined fss ++ es) = fails-le (settled s w i) (news s i fs (joined fss ++ es)) (λ e. settled-test P s w i .1 (rest-after s i fs (joined fss ++ es) k (h .0) e)) in
     omega arith
   where
     w : Net P
     w = net s (fs ++ (joined fss ++ es))
-    most : (c : Bool) → cond c 0 1 ≤ suc 0
-    most true = omega arith
-    most false = omega arith
-    one : (n : ℕ) → news s i fs (joined fss ++ es) ≡ n → cond (settled s w i) 0 1 ≤ n
-    one zero e = subst (λ (c : Bool). cond c 0 1 ≤ 0) (sym (T-is (settled s w i) (settled-test P s w i .1 (rest-after s i fs (joined fss ++ es) k (h .0) e)))) (omega arith)
-    one (suc n) e = let m : cond (settled s w i) 0 1 ≤ 1 = most (settled s w i) in omega arith
 
 pub settles-for : (P : Type 0) → SettlesFor P
 settles-for P s i es fss k even lone h =
@@ -172,34 +162,13 @@ settles-for P s i es fss k even lone h =
     let b : news s i (joined fss) es ≤ mostNews s i es = ends-for P s i es (joined fss) lone (joined-rule s i fss es h) in
     omega arith
 
--- the first so many acts of a run, in two parts
-between-join : {A : Type 0} (run : ℕ → A) (k m : ℕ) → between run 0 (k + m) ≡ between run k m ++ between run 0 k
-unfolding between
-between-join run k zero = ap (λ n. between run 0 n) (add-zero k)
-between-join run k (suc m) = ap (λ n. between run 0 n) (add-suc k m) ∙ ap (λ n. run n ∷ between run 0 (k + m)) (zero-add (k + m)) ∙ ap (λ l. run (k + m) ∷ l) (between-join run k m)
-
 pub settles-at-last-for : (P : Type 0) → SettlesAtLastFor P
-settles-at-last-for P s i es run k even lone fair rule never = reach (suc (mostNews s i es)) (λ p. let h : news s i (between run 0 (p .0)) es ≤ mostNews s i es = ends-for P s i es (between run 0 (p .0)) lone (rule (p .0)) in let g : suc (mostNews s i es) ≤ news s i (between run 0 (p .0)) es = p .1 in omega arith)
+settles-at-last-for P s i es run k even lone fair rule never =
+    at-last so-far (mostNews s i es) (λ n. Settled s (net s (between run 0 n ++ es)) i) (λ n. ends-for P s i es (between run 0 n) lone (rule n)) (λ n m. let a = then n m in omega arith)
+    (λ n. (fair n .0, λ e. rest-before s i (between run n (fair n .0)) (between run 0 n ++ es) k (fair n .1) (let a = then n (fair n .0) in omega arith))) never
   where
     so-far : ℕ → ℕ
     so-far n = news s i (between run 0 n) es
+
     then : (n m : ℕ) → so-far (n + m) ≡ news s i (between run n m) (between run 0 n ++ es) + so-far n
     then n m = ap (λ l. news s i l es) (between-join run n m) ∙ news-join s i (between run n m) (between run 0 n) es
-    grows : (n m : ℕ) → n ≤ m → so-far n ≤ so-far m
-    grows n m l =
-        let e : n + (m - n) ≡ m = omega arith in
-        let a : so-far (n + (m - n)) ≡ news s i (between run n (m - n)) (between run 0 n ++ es) + so-far n = then n (m - n) in
-        let b : so-far (n + (m - n)) ≡ so-far m = ap so-far e in
-        omega arith
-    -- when nothing more comes after the first n it is at rest from there on
-    at-rest : (j n : ℕ) → j ≤ so-far n → ((p : (m : ℕ) × (suc j ≤ so-far m)) → ⊥) → (m : ℕ) → n ≤ m → Settled s (net s (between run 0 m ++ es)) i
-    at-rest j n h stop m l =
-        let q : (d : ℕ) × StretchFor s i (between run m d) (between run 0 m ++ es) = fair m in
-        let a : so-far n ≤ so-far m = grows n m l in
-        let b : so-far (m + q .0) ≡ news s i (between run m (q .0)) (between run 0 m ++ es) + so-far m = then m (q .0) in
-        let c : ¬ (suc j ≤ so-far (m + q .0)) = λ g. stop (m + q .0, g) in
-        let z : news s i (between run m (q .0)) (between run 0 m ++ es) ≡ 0 = omega arith in
-        rest-before s i (between run m (q .0)) (between run 0 m ++ es) k (q .1) z
-    reach : (j : ℕ) → ((p : (m : ℕ) × (j ≤ so-far m)) → ⊥) → ⊥
-    reach zero stop = stop (0, omega arith)
-    reach (suc j) stop = reach j (λ p. never (p .0, at-rest j (p .0) (p .1) stop))

@@ -1,7 +1,6 @@
 -- far is the least cost of any way.
--- Assumes nothing.
 use mathlib.Core.Path.{_≡_, sym, _∙_, ap, subst}
-use mathlib.Core.Bool.{Bool, true, false, _&&_}
+use mathlib.Core.Bool.{_&&_}
 use mathlib.Core.List.{List, [], _∷_}
 use mathlib.Core.Logic.{_⊎_, inl, inr}
 use Prim.Native.Nat.{ℕ, zero, suc, _+_, _<_}
@@ -12,19 +11,7 @@ use Rattle.model.specs.Promise.{isWay, last, costOf, Least}
 use Rattle.model.proofs.Fars.{atMost, most-trans, most-at, plus-mono, plus-at, plus-inv}
 use Rattle.model.proofs.Rounds.{within-home, within-road, within-had, home-self, home-had}
 use Rattle.model.proofs.Settled.{settled}
-
--- both parts of a test
-pub both : (p q : Bool) → T p → T q → T (p && q)
-both true q s t = t
-both false q s t = s
-
-pub both-left : (p q : Bool) → T (p && q) → T p
-both-left true q t = tt
-both-left false q t = t
-
-pub both-right : (p q : Bool) → T (p && q) → T q
-both-right true q t = t
-both-right false q t = absurd t
+pub use Rattle.model.proofs.Tests.{both-t as both, left-t as both-left, right-t as both-right}
 
 -- a way by its first road and the rest
 pub way-in : (z : Map) (x y : ℕ) (ys : List ℕ) → y < z .n → 0 < z .cost x y → T (isWay z y ys) → T (isWay z x (y ∷ ys))
@@ -44,9 +31,9 @@ way-bounds z d a [] t e = subst (λ (f : Far). atMost (within 0 z d a) f) (ap (�
 way-bounds z d a (y ∷ ys) t e =
     let w = way-out z a y ys t in
     subst (λ (f : Far). atMost (within (suc (length ys)) z d a) f) (plus-at (z .cost a y) (costOf z y ys) (w .1))
-      (most-trans (within (suc (length ys)) z d a) (plus (z .cost a y) (within (length ys) z d y)) (plus (z .cost a y) (At (costOf z y ys)))
-        (within-road (length ys) z d a y (w .0))
-        (plus-mono (z .cost a y) (within (length ys) z d y) (At (costOf z y ys)) (way-bounds z d y ys (w .2) e)))
+    (most-trans (within (suc (length ys)) z d a) (plus (z .cost a y) (within (length ys) z d y)) (plus (z .cost a y) (At (costOf z y ys)))
+    (within-road (length ys) z d a y (w .0))
+    (plus-mono (z .cost a y) (within (length ys) z d y) (At (costOf z y ys)) (way-bounds z d y ys (w .2) e)))
 
 -- what a round has is the cost of a way
 pub way-had : (k : ℕ) (z : Map) (d a c : ℕ) → within k z d a ≡ At c → (ws : List ℕ) × T (isWay z a ws) × (last a ws ≡ d) × (costOf z a ws ≡ c)

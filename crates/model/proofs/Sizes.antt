@@ -1,35 +1,31 @@
--- No event changes how many routers there are.
--- Assumes nothing.
-use mathlib.Core.Path.{_≡_, refl, _∙_}
-use mathlib.Core.Bool.{Bool, true, false, cond, _&&_, not}
+-- No event changes how many routers there are, and no road leads from a router to itself or out of the net.
+use mathlib.Core.Path.{_≡_, refl, _∙_, ap}
+use mathlib.Core.Bool.{false, _&&_, not}
 use mathlib.Core.List.{List, [], _∷_}
-use Prim.Native.Nat.{ℕ, zero, suc}
+use Prim.Native.Nat.{ℕ}
 use lib.Dec.{eqb, ltb}
-use Rattle.model.specs.Words.{Word, World, Ev, Road, Says, Sends, Comes, Falls, newer, isIn, at2, ownEntry, unsaid, with-knows, says, told, comesNth, sends, step, world}
-
-either-n : (b : Bool) (u v : World) (k : ℕ) → u .n ≡ k → v .n ≡ k → cond b u v .n ≡ k
-either-n true u v k p q = p
-either-n false u v k p q = q
-
-pub told-n : (x : Word) (t : ℕ) (w : World) → told x t w .n ≡ w .n
-told-n x t w =
-    either-n (newer (x .entry) (w .knows (x .to) (x .about))) (cond (eqb (x .to) (x .about)) (with-knows (at2 (x .to) (x .to) (ownEntry (x .to) (x .entry .number) t w) (w .knows)) (t ∷ []) w) (with-knows (at2 (x .to) (x .about) (x .entry) (w .knows)) [] w)) w (w .n)
-      (either-n (eqb (x .to) (x .about)) (with-knows (at2 (x .to) (x .to) (ownEntry (x .to) (x .entry .number) t w) (w .knows)) (t ∷ []) w) (with-knows (at2 (x .to) (x .about) (x .entry) (w .knows)) [] w) (w .n) refl refl) refl
-
-pub nth-n : (i t : ℕ) (xs : List Word) (w : World) → comesNth i t xs w .n ≡ w .n
-unfolding comesNth
-nth-n i t [] w = refl
-nth-n zero t (x ∷ xs) w = either-n (ltb 0 (w .real (x .to) (x .from)) && not (isIn t (w .drawn))) (told x t w) w (w .n) (told-n x t w) refl
-nth-n (suc i) t (x ∷ xs) w = nth-n i t xs w
-
-pub step-n : (e : Ev) (w : World) → step e w .n ≡ w .n
-step-n (Road a e c) w = either-n (ltb a (w .n) && (ltb e (w .n) && not (eqb a e))) (record { n = w .n; real = at2 a e c (w .real); knows = w .knows; flight = w .flight; drawn = w .drawn }) w (w .n) refl refl
-step-n (Says a t) w = either-n (ltb a (w .n) && not (isIn t (w .drawn))) (says a t w) w (w .n) refl refl
-step-n (Sends a e i) w = either-n (ltb a (w .n) && (ltb e (w .n) && (ltb i (w .n) && ltb 0 (w .real a e)))) (sends a e i w) w (w .n) refl refl
-step-n (Comes i t) w = nth-n i t (w .flight) w
-step-n (Falls a) w = either-n (ltb a (w .n)) (with-knows (λ p q. cond (eqb p a) unsaid (w .knows p q)) [] w) w (w .n) refl refl
+use Rattle.std.proofs.shelf.Tests.{and-parts, both-ways, eqb-true}
+use Rattle.model.specs.Words.{World, Ev, step, world}
+use Rattle.model.proofs.Tests.{of-cond, and-second}
+use Rattle.model.proofs.Events.{of-step}
 
 pub world-n : (n : ℕ) (es : List Ev) → world n es .n ≡ n
 unfolding world
 world-n n [] = refl
-world-n n (e ∷ es) = step-n e (world n es) ∙ world-n n es
+world-n n (e ∷ es) = of-step (λ (u : World). u .n ≡ world n es .n) (world n es) refl (λ _ _ _ _. refl) (λ _ _ _ _. refl) (λ _ _. refl) e ∙ world-n n es
+
+step-no-road : (a e : ℕ) (w : World) (v : Ev) → (ltb e (w .n) && not (eqb a e)) ≡ false → w .real a e ≡ 0 → step v w .real a e ≡ 0
+step-no-road a e w v h k =
+    of-step (λ (u : World). u .real a e ≡ 0) w k
+    (λ b f c t. of-cond (λ (x : ℕ). x ≡ 0) (eqb a b && eqb e f) c (w .real a e)
+    (λ s. let p = and-parts (eqb a b) (eqb e f) s in
+    let u : a ≡ b = eqb-true a b (p .0) in
+    let v : e ≡ f = eqb-true e f (p .1) in
+    absurd (both-ways (ltb f (w .n) && not (eqb b f)) (rw (← u, ← v) h) (and-second (ltb b (w .n)) (ltb f (w .n) && not (eqb b f)) t)))
+    (λ _. k))
+    (λ _ _ _ _. k) (λ _ _. k) v
+
+pub no-road : (n : ℕ) (es : List Ev) (a e : ℕ) → (ltb e n && not (eqb a e)) ≡ false → world n es .real a e ≡ 0
+unfolding world
+no-road n [] a e h = refl
+no-road n (v ∷ es) a e h = step-no-road a e (world n es) v (ap (λ m. ltb e m && not (eqb a e)) (world-n n es) ∙ h) (no-road n es a e h)

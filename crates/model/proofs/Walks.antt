@@ -1,5 +1,4 @@
 -- Walks on which a rank falls, and packets that go by any next place on a least way.
--- Assumes nothing.
 use mathlib.Core.Path.{_≡_, refl, sym, _∙_, ap, subst}
 use mathlib.Core.Bool.{Bool, true, false, cond, _&&_}
 use mathlib.Core.List.{List, [], _∷_}
@@ -7,7 +6,7 @@ use Prim.Native.Nat.{ℕ, zero, suc, _+_, _<_, _≤_, zero-le}
 use native.Mathlib.Omega.{arith}
 use lib.Dec.{eqb, ltb, T, ltb→lt, lt→ltb}
 use lib.ListN.{length}
-use borrow.Author.Tests.{eqb-true}
+use Rattle.std.proofs.shelf.Tests.{eqb-true}
 use Rattle.model.specs.Map.{Map, At, plus, far, Hop, To, hasWay}
 use Rattle.model.specs.Promise.{isWay, last, costOf}
 use Rattle.model.specs.Ways.{trailOn, trail, ByAnyRank, Picks, ByAnyPolicy}
@@ -50,7 +49,7 @@ pub by-any-rank : ByAnyRank
 unfolding last
 by-any-rank next d part rank on k a t r =
     trail-all next d part rank on (λ a ws. (last a ws ≡ d) × (length ws ≤ rank a)) (λ a t h. (h, zero-le))
-      (λ a e ws s t h i q p. (p .0, omega (arith, p .1, q))) k a t r
+    (λ a e ws s t h i q p. (p .0, omega (arith, p .1, q))) k a t r
 
 -- the places from which there is a way to d
 abbrev pub leads : Map → ℕ → ℕ → Bool

@@ -1,14 +1,14 @@
 -- The promise of the whole, from its parts.
-use Rattle.model.specs.Promise.{Least, SameWords, Ends, QuietIsRest, ComesToRest, Whole, Main}
+use Rattle.model.specs.Promise.{Ends, ComesToRest, Main}
 use Rattle.model.specs.Settling.{EndsSooner, RestsByRule, Progress}
 use Rattle.model.proofs.Arrive.{arrives, refused}
-use Rattle.model.proofs.Bounds.{ends-sooner, ends}
+use Rattle.model.proofs.WordsEnd.{ends-sooner, ends}
 use Rattle.model.proofs.ComesToRest.{comes-to-rest-for}
 use Rattle.model.proofs.Ends.{ends-for}
 use Rattle.model.proofs.MakesProgress.{progress-for}
 use Rattle.model.proofs.OfWords.{same-words}
-use Rattle.model.proofs.Progressing.{progress}
-use Rattle.model.proofs.Reaching.{rests-by-rule, comes-to-rest}
+use Rattle.model.proofs.WordsProgress.{progress}
+use Rattle.model.proofs.WordsRest.{rests-by-rule, comes-to-rest}
 use Rattle.model.proofs.Resting.{quiet-is-rest}
 use Rattle.model.proofs.RoadsInstance.{roads-are-an-instance}
 use Rattle.model.proofs.Shortest.{least}

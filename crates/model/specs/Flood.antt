@@ -73,7 +73,7 @@ spoken a i number t w = record { number = suc number; tag = t; body = w .would a
 abbrev pub taken : {P : Type 0} → Copy P → ℕ → Net P → Net P
 taken x t w = cond (fresher (x .item) (w .holds (x .to) (x .about)))
     (cond (w .speaks (x .to) (x .about)) (puts (x .to) (x .about) (spoken (x .to) (x .about) (x .item .number) t w) (t ∷ []) w)
-      (puts (x .to) (x .about) (x .item) [] w)) w
+    (puts (x .to) (x .about) (x .item) [] w)) w
 
 abbrev pub gets : {P : Type 0} → Copy P → ℕ → Net P → Net P
 gets x t w = cond (w .link (x .to) (x .from) && not (isIn t (w .drawn))) (taken x t w) w

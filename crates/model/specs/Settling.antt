@@ -37,7 +37,7 @@ EndsSooner = (n : ℕ) (es fs : List Ev) → T (byRule n fs es) → newWords n f
 abbrev pub atRest : World → Bool
 atRest w =
     allBelow (w .n) (λ a. ownTrue a w && allBelow (w .n) (λ e. (not (ltb 0 (w .real a e)) || ltb 0 (w .real e a)) &&
-        (not (ltb 0 (w .real a e) && ltb 0 (w .real e a)) || allBelow (w .n) (λ i. sameWord (w .knows a i) (w .knows e i)))))
+    (not (ltb 0 (w .real a e) && ltb 0 (w .real e a)) || allBelow (w .n) (λ i. sameWord (w .knows a i) (w .knows e i)))))
 
 -- The test is right.
 abbrev pub RestTest : Type 0

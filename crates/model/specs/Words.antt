@@ -63,7 +63,7 @@ says a t w = with-knows (at2 a a (ownEntry a (w .knows a a .number) t w) (w .kno
 abbrev pub told : Word → ℕ → World → World
 told x t w = cond (newer (x .entry) (w .knows (x .to) (x .about)))
     (cond (eqb (x .to) (x .about)) (with-knows (at2 (x .to) (x .to) (ownEntry (x .to) (x .entry .number) t w) (w .knows)) (t ∷ []) w)
-      (with-knows (at2 (x .to) (x .about) (x .entry) (w .knows)) [] w)) w
+    (with-knows (at2 (x .to) (x .about) (x .entry) (w .knows)) [] w)) w
 
 abbrev pub comes : Word → ℕ → World → World
 comes x t w = cond (ltb 0 (w .real (x .to) (x .from)) && not (isIn t (w .drawn))) (told x t w) w

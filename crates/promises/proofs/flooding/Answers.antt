@@ -10,15 +10,15 @@ use Rattle.promises.proofs.flooding.Needs as need
 
 pub returns : need.returns
 returns g c =
-    record
-      { tag = one-tag-for _
-      ; spoken = spoken-for _
-      ; onward = onward-for _
-      ; ends = ends-for _
-      ; quiet = quiet-for _
-      ; test = settled-test _
-      ; rests = comes-to-rest-for _
-      ; progress = progress-for _
-      ; counted = settles-for _
-      ; at-last = settles-at-last-for _
-      }
+    record {
+      tag = one-tag-for _;
+      spoken = spoken-for _;
+      onward = onward-for _;
+      ends = ends-for _;
+      quiet = quiet-for _;
+      test = settled-test _;
+      rests = comes-to-rest-for _;
+      progress = progress-for _;
+      counted = settles-for _;
+      at-last = settles-at-last-for _;
+    }

@@ -1,72 +1,28 @@
--- How many words are new, by what is new about each router. Assumes nothing.
+-- How many words are new, by what is new about each router.
 use mathlib.Core.Path.{_≡_, refl, sym, ap, subst, _∙_}
 use mathlib.Core.Bool.{Bool, cond}
 use mathlib.Core.List.{List, [], _∷_, _++_}
 use mathlib.Core.Logic.{_⊎_, inl, inr}
-use Prim.Native.Nat.{ℕ, zero, suc, _+_, _*_, _<_, _≤_}
+use Prim.Native.Nat.{ℕ, zero, suc, _+_, _*_, _≤_}
 use native.Mathlib.Omega.{arith}
-use native.Mathlib.Nat.{mul-le-mul-left, mul-add, suc-mul, zero-mul, mul-zero, mul-assoc}
+use native.Mathlib.Nat.{mul-le-mul-left, mul-add, suc-mul, zero-mul, mul-assoc}
 use lib.ListN.{length, length-map}
 use lib.Dec.{eqb, T}
-use Rattle.std.proofs.shelf.Tests.{cases-eq, cond-both, ne-eqb, eqb-true}
+use Rattle.std.proofs.shelf.Tests.{cond-both, eqb-true}
 use Rattle.model.specs.Words.{Ev, world}
 use Rattle.model.specs.Promise.{byRule, newWords, goes, Ends}
 use Rattle.model.specs.Settling.{EndsSooner, fewNew}
 use Rattle.model.specs.Flood.{Copy, Setup, net}
 use Rattle.model.specs.Spread.{isNew, news, aboutIn, mostNews, Lone, EndsFor}
 use Rattle.model.specs.Roads.{copyOf, actOf, actsOf, OfRoads, Mirrors, RoadsAreAnInstance}
-use Rattle.model.proofs.Below.{t-true, true-t}
-use Rattle.model.proofs.Resting.{world-n}
-use Rattle.model.proofs.Ruled.{flight-below}
+use Rattle.model.proofs.Tests.{t-true, true-t}
+use Rattle.model.proofs.Sizes.{world-n}
+use Rattle.model.proofs.WordsByRule.{flight-below}
 use Rattle.model.proofs.EventActs.{acts, mirrors-after, rule-for, goes-new}
-
--- the sum over all numbers below n
-abbrev sumBelow : ℕ → (ℕ → ℕ) → ℕ
-sumBelow zero f = 0
-sumBelow (suc n) f = sumBelow n f + f n
-
-sum-le : (n : ℕ) (f g : ℕ → ℕ) → ((i : ℕ) → i < n → f i ≤ g i) → sumBelow n f ≤ sumBelow n g
-sum-le zero f g h = omega arith
-sum-le (suc n) f g h = let k = sum-le n f g (λ i l. h i (omega arith)) in let m = h n (omega arith) in omega arith
-
-sum-add : (n : ℕ) (f g : ℕ → ℕ) → sumBelow n (λ i. f i + g i) ≡ sumBelow n f + sumBelow n g
-sum-add zero f g = refl
-sum-add (suc n) f g = let k = sum-add n f g in omega arith
-
-sum-part : (n : ℕ) (f : ℕ → ℕ) (i : ℕ) → i < n → f i ≤ sumBelow n f
-sum-part zero f i l = absurd (let k : ⊥ = omega arith in k)
-sum-part (suc n) f i l = go (cases-eq i n) (sum-part n f i)
-  where
-    go : (i ≡ n) ⊎ (i ≡ n → ⊥) → (i < n → f i ≤ sumBelow n f) → f i ≤ sumBelow n f + f n
-    go (inl e) k = let q = ap f e in omega arith
-    go (inr d) k = let q = k (omega arith) in omega arith
-
-sum-zero : (n : ℕ) (f : ℕ → ℕ) → ((i : ℕ) → i < n → f i ≡ 0) → sumBelow n f ≡ 0
-sum-zero zero f h = refl
-sum-zero (suc n) f h = let k = sum-zero n f (λ i l. h i (omega arith)) in let m = h n (omega arith) in omega arith
-
--- one number is at most once below n
-sum-once : (n k : ℕ) → sumBelow n (λ i. cond (eqb k i) 1 0) ≤ 1
-sum-once zero k = omega arith
-sum-once (suc n) k = cond-both (eqb k n) 1 0 (λ x. sumBelow n (λ i. cond (eqb k i) 1 0) + x ≤ 1)
-    (λ e. let z = sum-zero n (λ i. cond (eqb k i) 1 0) (λ i l. ap (λ (b : Bool). cond {A = ℕ} b 1 0) (ne-eqb k i (λ q. let r = eqb-true k n e in let u : ⊥ = omega arith in u))) in omega arith)
-    (λ e. let z = sum-once n k in omega arith)
-
--- as many times c and m more
-sum-times : (n c m : ℕ) (f : ℕ → ℕ) → sumBelow n (λ i. c * (m + f i)) ≡ c * (n * m + sumBelow n f)
-sum-times zero c m f = rw (zero-mul, mul-zero)
-sum-times (suc n) c m f =
-    let k = sum-times n c m f in
-    let a = mul-add c (n * m) (sumBelow n f) in
-    let b = mul-add c (suc n * m) (sumBelow n f + f n) in
-    let d = mul-add c (sumBelow n f) (f n) in
-    let g = mul-add c m (f n) in
-    let h = ap (λ x. c * x) (suc-mul n m) in
-    let j = mul-add c (n * m) m in
-    omega arith
+use Rattle.model.proofs.Tallies.{sum, sum-le, sum-add, sum-part, sum-zero, sum-once, sum-times}
 
 -- each copy is about one subject
-abouts : (n : ℕ) (xs : List (Copy (ℕ → ℕ))) → sumBelow n (λ i. aboutIn i xs) ≤ length xs
+abouts : (n : ℕ) (xs : List (Copy (ℕ → ℕ))) → sum n (λ i. aboutIn i xs) ≤ length xs
 unfolding aboutIn
 abouts n [] = let k = sum-zero n (λ i. 0) (λ i l. refl) in omega arith
 abouts n (x ∷ xs) =
@@ -81,7 +37,7 @@ module _ (n : ℕ) (s : Setup (ℕ → ℕ)) (o : OfRoads n s) (mir : (es : List
   lone es i a e l m p q = eqb-true a i (sym (mir es .speaks a i) ∙ p) ∙ sym (eqb-true e i (sym (mir es .speaks e i) ∙ q))
 
   -- each new word is new about some router
-  new-by-router : (fs es : List Ev) → newWords n fs es ≤ sumBelow n (λ i. news s i (acts n fs es) (actsOf n es))
+  new-by-router : (fs es : List Ev) → newWords n fs es ≤ sum n (λ i. news s i (acts n fs es) (actsOf n es))
   unfolding newWords news
   new-by-router [] es = omega arith
   new-by-router (f ∷ fs) es =
@@ -90,11 +46,11 @@ module _ (n : ℕ) (s : Setup (ℕ → ℕ)) (o : OfRoads n s) (mir : (es : List
       let r = here f fs es in
       omega arith
     where
-      here : (f : Ev) (fs es : List Ev) → cond (goes f (world n (fs ++ es))) 1 0 ≤ sumBelow n (λ i. cond (isNew s i (actOf (world n (fs ++ es)) f) (net s (acts n fs es ++ actsOf n es))) 1 0)
-      here f fs es = cond-both (goes f (world n (fs ++ es))) 1 0 (λ x. x ≤ sumBelow n (λ i. cond (isNew s i (actOf (world n (fs ++ es)) f) (net s (acts n fs es ++ actsOf n es))) 1 0))
+      here : (f : Ev) (fs es : List Ev) → cond (goes f (world n (fs ++ es))) 1 0 ≤ sum n (λ i. cond (isNew s i (actOf (world n (fs ++ es)) f) (net s (acts n fs es ++ actsOf n es))) 1 0)
+      here f fs es = cond-both (goes f (world n (fs ++ es))) 1 0 (λ x. x ≤ sum n (λ i. cond (isNew s i (actOf (world n (fs ++ es)) f) (net s (acts n fs es ++ actsOf n es))) 1 0))
           (λ e. let g = goes-new n s o (world n (fs ++ es)) (net s (acts n fs es ++ actsOf n es)) (world-n n (fs ++ es)) (mirrors-after n s o mir fs es) (flight-below n (fs ++ es)) f (true-t (goes f (world n (fs ++ es))) e) in
           let h = sum-part n (λ i. cond (isNew s i (actOf (world n (fs ++ es)) f) (net s (acts n fs es ++ actsOf n es))) 1 0) (g .0) (g .1) in
-          subst (λ (b : Bool). cond b 1 0 ≤ sumBelow n (λ i. cond (isNew s i (actOf (world n (fs ++ es)) f) (net s (acts n fs es ++ actsOf n es))) 1 0)) (t-true (isNew s (g .0) (actOf (world n (fs ++ es)) f) (net s (acts n fs es ++ actsOf n es))) (g .2)) h)
+          subst (λ (b : Bool). cond b 1 0 ≤ sum n (λ i. cond (isNew s i (actOf (world n (fs ++ es)) f) (net s (acts n fs es ++ actsOf n es))) 1 0)) (t-true (isNew s (g .0) (actOf (world n (fs ++ es)) f) (net s (acts n fs es ++ actsOf n es))) (g .2)) h)
           (λ e. omega arith)
 
   -- so there are as few as all routers together allow
@@ -102,12 +58,12 @@ module _ (n : ℕ) (s : Setup (ℕ → ℕ)) (o : OfRoads n s) (mir : (es : List
   few en fs es h =
       let k = new-by-router fs es in
       let j = sum-le n (λ i. news s i (acts n fs es) (actsOf n es)) (λ i. mostNews s i (actsOf n es)) (λ i l. en s i (actsOf n es) (acts n fs es) (lone es i) (rule-for n s o mir i fs es h)) in
-      let u = subst (λ b. sumBelow n (λ i. mostNews s i (actsOf n es)) ≡ sumBelow n (λ i. 2 * b * (b + aboutIn i (net s (actsOf n es) .flight)))) (o .boxes) refl in
+      let u = subst (λ b. sum n (λ i. mostNews s i (actsOf n es)) ≡ sum n (λ i. 2 * b * (b + aboutIn i (net s (actsOf n es) .flight)))) (o .boxes) refl in
       let v = sum-times n (2 * n) n (λ i. aboutIn i (net s (actsOf n es) .flight)) in
       let x = abouts n (net s (actsOf n es) .flight) in
       let y = ap (λ (xs : List (Copy (ℕ → ℕ))). length xs) (mir es .flight) ∙ length-map (world n es .flight) copyOf in
-      let z : sumBelow n (λ i. aboutIn i (net s (actsOf n es) .flight)) ≤ length (world n es .flight) = omega arith in
-      let c : 2 * n * (n * n + sumBelow n (λ i. aboutIn i (net s (actsOf n es) .flight))) ≤ fewNew n es = mul-le-mul-left (2 * n) (omega arith) in
+      let z : sum n (λ i. aboutIn i (net s (actsOf n es) .flight)) ≤ length (world n es .flight) = omega arith in
+      let c : 2 * n * (n * n + sum n (λ i. aboutIn i (net s (actsOf n es) .flight))) ≤ fewNew n es = mul-le-mul-left (2 * n) (omega arith) in
       omega arith
 
 -- however words go by rule, only so many are new

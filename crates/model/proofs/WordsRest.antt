@@ -1,24 +1,25 @@
--- Few words by rule bring rest, router by router. Assumes nothing.
+-- Few words by rule bring rest, router by router.
 use mathlib.Core.Path.{_≡_, sym, ap, subst, _∙_}
 use mathlib.Core.List.{List, [], _++_, append-assoc}
-use mathlib.Core.Logic.{_⊎_, inl, inr}
 use Prim.Native.Nat.{ℕ, zero, suc, _+_, _*_, _<_, _≤_}
 use native.Mathlib.Omega.{arith}
 use native.Mathlib.Nat.{mul-add, suc-mul, mul-assoc, mul-comm}
 use lib.ListN.{length, length-append}
 use lib.Dec.{T}
-use Rattle.std.proofs.shelf.Tests.{cases-eq, not-false, lt-ltb, ltb-true}
+use Rattle.std.proofs.shelf.Tests.{not-false, lt-ltb, ltb-true}
 use Rattle.model.specs.Words.{World, Ev, world}
 use Rattle.model.specs.Promise.{ownTrue, onlyWords, Even, Rest, byRule, ComesToRest}
 use Rattle.model.specs.Settling.{RestsByRule}
 use Rattle.model.specs.Flood.{Item, Setup, Net, Act, net}
 use Rattle.model.specs.Spread.{Settled, byRuleFor, EvenFor, ComesToRestFor}
 use Rattle.model.specs.Roads.{itemOf, actsOf, OfRoads, Mirrors, RoadsAreAnInstance}
-use Rattle.model.proofs.Below.{true-t}
-use Rattle.model.proofs.Resting.{world-n, own-so, so-own, rest-from}
-use Rattle.model.proofs.Ruled.{real-kept, even-kept, rule-join, rule-only}
+use Rattle.model.proofs.Tests.{true-t}
+use Rattle.model.proofs.Sizes.{world-n}
+use Rattle.model.proofs.Resting.{own-so, so-own, rest-from}
+use Rattle.model.proofs.WordsByRule.{real-kept, even-kept, rule-join, rule-only}
 use Rattle.model.proofs.EventActs.{acts, mirrors-after, rule-from, owes-own}
-use Rattle.model.proofs.Bounds.{lone}
+use Rattle.model.proofs.WordsEnd.{lone}
+use Rattle.model.proofs.Below.{below-suc}
 
 -- at rest about one router: it has said what is so, and whoever share a road have the same word of it
 pub record Calm (w : World) (i : ℕ) : Type 0 where
@@ -70,7 +71,7 @@ module _ (n : ℕ) (s : Setup (ℕ → ℕ)) (o : OfRoads n s) (mir : (es : List
 
   -- one router more
   one-more : ComesToRestFor (ℕ → ℕ) → (es : List Ev) → Even (world n es) → (k : ℕ) → k < n → CalmUpTo es k → CalmUpTo es (suc k)
-  one-more c es v k l (fs, r, len, calm) = (hs ++ fs, rule-join n hs fs es hr r, fits, λ i j. subst (λ (xs : List Ev). Calm (world n xs) i) (sym (append-assoc hs fs es)) (at i (cases-eq i k) j))
+  one-more c es v k l (fs, r, len, calm) = (hs ++ fs, rule-join n hs fs es hr r, fits, λ i j. subst (λ (xs : List Ev). Calm (world n xs) i) (sym (append-assoc hs fs es)) (at i j))
     where
       step : (gs : List (Act (ℕ → ℕ))) × (length gs ≤ 4 * s .boxes + 1) × ((j : ℕ) → T (byRuleFor s j gs (actsOf n (fs ++ es)))) × Settled s (net s (gs ++ actsOf n (fs ++ es))) k ×
           ((a j : ℕ) → (j ≡ k → ⊥) → net s (gs ++ actsOf n (fs ++ es)) .holds a j ≡ net s (actsOf n (fs ++ es)) .holds a j)
@@ -92,10 +93,11 @@ module _ (n : ℕ) (s : Setup (ℕ → ℕ)) (o : OfRoads n s) (mir : (es : List
       kept a j d = sym (mirrors-after n s o mir hs (fs ++ es) .holds a j)
           ∙ subst (λ (xs : List (Act (ℕ → ℕ))). net s (xs ++ actsOf n (fs ++ es)) .holds a j ≡ net s (actsOf n (fs ++ es)) .holds a j) (sym (evs .1)) (step .4 a j d) ∙ mir (fs ++ es) .holds a j
 
-      at : (i : ℕ) → (i ≡ k) ⊎ (i ≡ k → ⊥) → i < suc k → Calm (world n (hs ++ (fs ++ es))) i
-      at i (inl e) j = subst (Calm (world n (hs ++ (fs ++ es)))) (sym e) (settled-calm (world n (hs ++ (fs ++ es))) (net s (acts n hs (fs ++ es) ++ actsOf n (fs ++ es))) (world-n n (hs ++ (fs ++ es))) (mirrors-after n s o mir hs (fs ++ es)) k l
+      at : (i : ℕ) → i < suc k → Calm (world n (hs ++ (fs ++ es))) i
+      at = below-suc (Calm (world n (hs ++ (fs ++ es)))) k
+          (λ i j. calm-kept (world n (fs ++ es)) (world n (hs ++ (fs ++ es))) i (world-n n (fs ++ es) ∙ sym (world-n n (hs ++ (fs ++ es)))) (sym (real-kept n hs (fs ++ es) hr)) (λ a. kept a i (λ d. let z : ⊥ = omega arith in z)) (calm i j))
+          (settled-calm (world n (hs ++ (fs ++ es))) (net s (acts n hs (fs ++ es) ++ actsOf n (fs ++ es))) (world-n n (hs ++ (fs ++ es))) (mirrors-after n s o mir hs (fs ++ es)) k l
           (subst (λ (xs : List (Act (ℕ → ℕ))). Settled s (net s (xs ++ actsOf n (fs ++ es))) k) (sym (evs .1)) (step .3)))
-      at i (inr d) j = calm-kept (world n (fs ++ es)) (world n (hs ++ (fs ++ es))) i (world-n n (fs ++ es) ∙ sym (world-n n (hs ++ (fs ++ es)))) (sym (real-kept n hs (fs ++ es) hr)) (λ a. kept a i d) (calm i (omega arith))
 
   up-to : ComesToRestFor (ℕ → ℕ) → (es : List Ev) → Even (world n es) → (k : ℕ) → k ≤ n → CalmUpTo es k
   up-to c es v zero l = ([], unfold byRule in tt, omega arith, λ i j. absurd (let z : ⊥ = omega arith in z))
