@@ -7,7 +7,7 @@ use lib.Dec.{eqb, ltb}
 use borrow.Author.Tests.{eqb-true}
 use Rattle.model.specs.Words.{Entry, Word, newer}
 use Rattle.model.specs.Box.{Box, isOpen, has, ownWord, saysNow, isNewTo, takes, sees, mustSay}
-use Rattle.model.proofs.Fresh.{after}
+use Rattle.linkmodel.proofs.Newer.{after}
 use Rattle.model.proofs.Tests.{of-cond}
 use Rattle.linkmodel.proofs.Bools.{true-not-false, and-left, and-right, not-was}
 use Rattle.linkmodel.specs.Links.{Links, roadCost}

@@ -1,15 +1,17 @@
 -- The order of words by `newer`: not newer is a total preorder on number and tag.
 use mathlib.Core.Path.{_≡_}
-use mathlib.Core.Bool.{true, false, _&&_}
+use mathlib.Core.Bool.{Bool, true, false, _&&_, _||_}
 use Prim.Native.Nat.{ℕ, suc}
 use native.Mathlib.Omega.{arith}
-use lib.Dec.{eqb}
+use lib.Dec.{eqb, ltb}
 use Rattle.std.proofs.shelf.Ways.{tells}
 use Rattle.model.specs.Words.{Entry, newer}
 use Rattle.model.specs.Code.{sameWord}
-use Rattle.model.proofs.Fresh.{after}
 
--- the order on number and tag
+-- the order of two words by number and tag
+abbrev pub after : ℕ → ℕ → ℕ → ℕ → Bool
+after m t n u = ltb n m || (eqb n m && ltb u t)
+
 pub after-self : (m t : ℕ) → after m t m t ≡ false
 after-self m t = grind (arith, tells)
 
