@@ -1,6 +1,14 @@
 // The theorems about nets of boxes, each carried by the contract of a function, so that the gate asks for its proof.
 //
-// The statements and their proofs are in `model`; there is no code here to run. Start with `whole`: it is the promise of the whole.
+// The statements and their proofs are in `model` and `linkmodel`; there is no code here to run. Start with `whole`: it is the promise of the whole.
+mod wires;
+
+pub use wires::agreeing;
+pub use wires::hellos;
+pub use wires::relinking;
+pub use wires::shown;
+pub use wires::telling;
+
 ghost use Rattle.model.specs.Boxes.{BoxIsCode, TakesSo, FallSo, TickSo, EveryBoxStands, BoxesDeliver};
 ghost use Rattle.model.specs.Cases.{CasesHold};
 ghost use Rattle.model.specs.Hops.{HopsTrue};
