@@ -25,3 +25,7 @@ pub mod Staying
 pub mod Quieting
 pub mod QuietNet
 pub mod Starving
+-- which events each thing that a box does is
+pub mod Joins
+pub mod Sendings
+pub mod Takings

@@ -1,4 +1,6 @@
 // What the calls of a box answer, beside its new state.
+ghost use Rattle.router.specs.State.{refusalNumber};
+ghost use mathlib.Core.Path.{_≡_};
 
 // The next box towards another.
 #[derive(Clone, Copy)]
@@ -29,4 +31,15 @@ pub enum Refusal {
     NoRoad,
     // The count would be 2^63 or more.
     CountSpent,
+}
+
+// The number of each refusal.
+pub fn refusal_number(refusal: Refusal) -> u8
+    ensures { λ r. ⌜ r ≡ refusalNumber refusal ⌝ }
+{
+    match refusal {
+        Refusal::OutOfRange => 2,
+        Refusal::NoRoad => 3,
+        Refusal::CountSpent => 11,
+    }
 }

@@ -1,0 +1,3 @@
+pub mod Alls
+pub mod Calm
+pub mod Routes

@@ -1,0 +1,4 @@
+pub mod Numbers
+pub mod Table
+pub mod Turns
+pub mod Refusals
