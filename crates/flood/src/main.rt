@@ -15,7 +15,7 @@ use std::io::BufReader;
 const HELP: &str = "flood [SCRIPT]: plays the net of a script, or of standard input.
 
 A script begins with the line
-  boxes N              a net of N boxes, 1 to 64, numbered from 0
+  boxes N              a new net of N boxes, 1 to 64, numbered from 0
 and goes on with lines of these forms:
   road A E COST BACK   a road between A and E, at COST from A and BACK from E; 0 0 takes it away
   fall A               box A loses all that it knew

@@ -26,19 +26,25 @@ impl Player {
         }
     }
 
-    // The first line says how many boxes there are, and no other does.
+    // A line that says how many boxes there are begins a new net; before the first there is none to play.
     fn play(&mut self, rt: &LibcRuntime, command: Command) -> io::Result<()> {
-        match (&mut self.net, command) {
-            (None, Command::Boxes(count)) => match Net::new(rt.alloc(), count) {
-                Ok(net) => {
-                    let answer = tell_rest(rt, &net);
-                    self.net = Some(net);
-                    answer
-                }
-                Err(trouble) => answer_trouble(rt, trouble),
-            },
-            (Some(net), command) => go_on(rt, net, command),
-            (None, _) => refuse(rt, Fault::Form),
+        if let Command::Boxes(count) = command {
+            return self.begin(rt, count);
+        }
+        match &mut self.net {
+            Some(net) => go_on(rt, net, command),
+            None => refuse(rt, Fault::Form),
+        }
+    }
+
+    fn begin(&mut self, rt: &LibcRuntime, count: u8) -> io::Result<()> {
+        match Net::new(rt.alloc(), count) {
+            Ok(net) => {
+                let answer = tell_rest(rt, &net);
+                self.net = Some(net);
+                answer
+            }
+            Err(trouble) => answer_trouble(rt, trouble),
         }
     }
 }

@@ -11,7 +11,6 @@ ghost use mathlib.Core.Path.{_≡_};
 
 // Whether two boxes have the same word of every box below `n`.
 fn alike(n: u8, one: Router, other: Router) -> bool
-    requires { ⌜ n ≤ 64 ⌝ }
     ensures { λ r. ⌜ r ≡ alikeBelow n (boxOf one) (boxOf other) ⌝ }
 {
     for i in 0..n {
@@ -24,7 +23,6 @@ fn alike(n: u8, one: Router, other: Router) -> bool
 
 // Whether two boxes, of these numbers, agree: both hold the road between them open and have the same words, or neither does.
 fn agree(n: u8, one: Router, a: u8, other: Router, e: u8) -> bool
-    requires { ⌜ n ≤ 64 ⌝ }
     ensures { λ r. ⌜ r ≡ agreesWith n (boxOf one) a (boxOf other) e ⌝ }
 {
     let there = one.is_open(e);

@@ -90,11 +90,13 @@ impl Router {
         }
     }
 
-    // The numbers of the word that it has of a box.
+    // The numbers of the word that it has of a box; those of no word for a number of no box.
     pub fn id_of(self, about: u8) -> WordId
-        requires { ⌜ about < 64 ⌝ }
         ensures { λ r. ⌜ r ≡ record { about = about; count = boxOf self .word about .number; tag = boxOf self .word about .tag } ⌝ }
     {
+        if about >= 64 {
+            return WordId { about, count: 0, tag: 0 };
+        }
         WordId {
             about,
             count: self.counts[about as usize],

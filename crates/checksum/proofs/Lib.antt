@@ -1,0 +1,10 @@
+pub mod Bit
+pub mod Bytes
+pub mod Entries
+pub mod Folds
+pub mod Frame
+pub mod Known
+pub mod Mend
+pub mod Sum
+pub mod Table
+pub mod Words

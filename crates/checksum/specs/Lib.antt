@@ -1,0 +1,5 @@
+pub mod Bytes
+pub mod Crc
+pub mod Internet
+pub mod Known
+pub mod Refused
