@@ -3,7 +3,7 @@ use checksum::crc::*;
 use checksum::internet::*;
 
 // Whether the sum of all but the last four bytes, written into those, reads so and fits.
-pub fn reads(frame: &mut [u8], sum: [u8; 4]) -> bool {
+fn reads(frame: &mut [u8], sum: [u8; 4]) -> bool {
     write_sum(frame).is_ok() && frame.ends_with(&sum) && sum_fits(frame)
 }
 

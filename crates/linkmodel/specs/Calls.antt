@@ -42,7 +42,7 @@ expired s = relinked (s .links) (passes (s .links)) (s .box)
 abbrev pub saying : ℕ → Box → List Ev
 saying t b = cond (mustSay b && canSay (b .word (b .me) .number)) (Says (b .me) t ∷ []) []
 
--- A tick drops old roads, says a word if one is owed, and at every fifth tick sends what neighbours haven't shown; just these words are then on their way.
+-- A tick drops old roads and says a word if one is owed; telling sends what neighbours haven't shown, and just these words are then on their way.
 abbrev pub TicksSo : Type 0
 TicksSo =
     (s : Station) (es : List Ev) (t : ℕ) → isIn t (world (s .box .n) es .drawn) ≡ false →

@@ -8,6 +8,7 @@ pub use wires::hellos;
 pub use wires::relinking;
 pub use wires::shown;
 pub use wires::telling;
+pub use wires::whole_boxes;
 
 ghost use Rattle.model.specs.Boxes.{BoxIsCode, TakesSo, FallSo, TickSo, EveryBoxStands, BoxesDeliver};
 ghost use Rattle.model.specs.Cases.{CasesHold};

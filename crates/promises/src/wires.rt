@@ -1,5 +1,6 @@
 // The theorems about boxes on wires: hellos, which roads are open, and telling over roads that lose.
 ghost use Rattle.linkmodel.specs.Agreeing.{BothOpen, BothOpenSooner, NeitherOpen, CanAgree};
+ghost use Rattle.linkmodel.specs.Calls.{HelloSo, CostsSo, FallsSo, TicksSo, TellsSo, WordsSo, AnswersSo, SeensSo};
 ghost use Rattle.linkmodel.specs.Hellos.{OpenJustWhen, OpenMeans};
 ghost use Rattle.linkmodel.specs.Relinked.{RelinkSo, RelinkOneByOne};
 ghost use Rattle.linkmodel.specs.Telling.{SeenShows, WordShows, TakenShows, ShownStays, NothingToTell, OnlyHellos, QuietTick, QuietNet, NothingStarves, AllTold, RoundTrip};
@@ -51,6 +52,20 @@ pub fn telling() -> u8
     ensures only { λ _. ⌜ OnlyHellos ⌝ }
     ensures tick { λ _. ⌜ QuietTick ⌝ }
     ensures net { λ _. ⌜ QuietNet ⌝ }
+{
+    0
+}
+
+// Each thing that a whole box does is a list of the model's events: hellos, new costs, falls, ticks and telling, packets of words and their answers, and packets of seens.
+pub fn whole_boxes() -> u8
+    ensures hello { λ _. ⌜ HelloSo ⌝ }
+    ensures costs { λ _. ⌜ CostsSo ⌝ }
+    ensures falls { λ _. ⌜ FallsSo ⌝ }
+    ensures ticks { λ _. ⌜ TicksSo ⌝ }
+    ensures tells { λ _. ⌜ TellsSo ⌝ }
+    ensures words { λ _. ⌜ WordsSo ⌝ }
+    ensures answers { λ _. ⌜ AnswersSo ⌝ }
+    ensures seens { λ _. ⌜ SeensSo ⌝ }
 {
     0
 }
