@@ -1,0 +1,6 @@
+pub mod Fronts
+pub mod Puts
+pub mod Parts
+pub mod Numbers
+pub mod Many
+pub mod Times

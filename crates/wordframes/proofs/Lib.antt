@@ -1,0 +1,9 @@
+pub mod Lengths
+pub mod Filling
+pub mod Each
+pub mod Roads
+pub mod Triples
+pub mod RoadsAgain
+pub mod RoadsOnly
+pub mod Batches
+pub mod Items
