@@ -1,9 +1,11 @@
 // The net that is played: boxes, the wires between them, and what is on the wires.
-use crate::node::Frame;
-use crate::node::Node;
-use hello::Links;
+use messages::Hello;
+use messages::Seens;
+use messages::Settings;
+use messages::Words;
 use net::Ending;
 use router::Router;
+use station::Station;
 use std::alloc::AllocError;
 use std::alloc::Global;
 use std::alloc::Refused;
@@ -50,6 +52,14 @@ struct Cable {
     losing_back: u32,
 }
 
+// What goes over a wire.
+#[derive(Clone, Copy)]
+enum Frame {
+    Hello(Hello),
+    Words(Words),
+    Seens(Seens),
+}
+
 // A frame on its way, with the end at which it arrives.
 #[derive(Clone, Copy)]
 struct Letter {
@@ -57,13 +67,12 @@ struct Letter {
     frame: Frame,
 }
 
-// `boxes` and `links`: by their numbers. `flight`: what was sent in the last tick, in the order in which it was sent.
+// `boxes`: by their numbers. `flight`: what was sent in the last tick, in the order in which it was sent.
 // `drawn`: the last number drawn; each is drawn once, for a tag or for a life.
 #[derive(Drop)]
 pub(crate) struct Net {
     heap: Global,
-    boxes: Vec<Router>,
-    links: Vec<Links>,
+    boxes: Vec<Station>,
     cables: Vec<Cable>,
     flight: Vec<Letter>,
     drawn: u64,
@@ -74,24 +83,32 @@ impl Net {
         let mut net = Net {
             heap,
             boxes: Vec::new(heap),
-            links: Vec::new(heap),
             cables: Vec::new(heap),
             flight: Vec::new(heap),
             drawn: 0,
         };
         for me in 0..count {
             let drawn = net.draw();
-            let Some(node) = Node::new(count, me, drawn) else {
+            let Ok(station) = Station::new(count, me, drawn) else {
                 return Err(Trouble::Line);
             };
-            net.boxes.push(node.router)?;
-            net.links.push(node.links)?;
+            net.boxes.push(station)?;
         }
         Ok(net)
     }
 
-    pub(crate) fn at_rest(&self) -> bool {
-        net::at_rest(self.boxes.as_slice())
+    // The roads and words of all boxes.
+    fn routers(&self) -> Result<Vec<Router>, Trouble> {
+        let mut routers = Vec::new(self.heap);
+        for station in self.boxes.iter() {
+            routers.push(station.router())?;
+        }
+        Ok(routers)
+    }
+
+    pub(crate) fn at_rest(&self) -> Result<bool, Trouble> {
+        let routers = self.routers()?;
+        Ok(net::at_rest(routers.as_slice()))
     }
 
     // A number that was never drawn before.
@@ -100,18 +117,13 @@ impl Net {
         self.drawn
     }
 
-    fn node(&self, a: u8) -> Option<Node> {
-        let router = self.boxes.get(a as usize).copied()?;
-        let links = self.links.get(a as usize).copied()?;
-        Some(Node { links, router })
+    fn station(&self, a: u8) -> Option<Station> {
+        self.boxes.get(a as usize).copied()
     }
 
-    fn put(&mut self, a: u8, node: Node) {
+    fn put(&mut self, a: u8, station: Station) {
         if let Some(place) = self.boxes.get_mut(a as usize) {
-            *place = node.router;
-        }
-        if let Some(place) = self.links.get_mut(a as usize) {
-            *place = node.links;
+            *place = station;
         }
     }
 
@@ -147,14 +159,23 @@ impl Net {
 
     // The end of a box's wire changes its cost.
     fn set_cost(&mut self, end: End, cost: u16) {
-        if let Some(node) = self.node(end.at) {
-            self.put(end.at, node.rewired(end.wire, cost));
+        let Some(station) = self.station(end.at) else {
+            return;
+        };
+        let links = station.links();
+        let mut costs = [0u16; 8];
+        for w in 0u8..8 {
+            costs[w as usize] = if w == end.wire { cost } else { links.cost(w) };
+        }
+        let settings = Settings { boxes: links.boxes(), me: links.box_number(), costs };
+        if let Ok(next) = station.rewire(settings) {
+            self.put(end.at, next);
         }
     }
 
     // A wire is laid at the lowest free number of each end, or its costs change; 0 0 takes it away, and what is on it is lost.
     pub(crate) fn road(&mut self, a: u8, e: u8, cost: u16, back: u16) -> Result<(), Trouble> {
-        if self.node(a).is_none() || self.node(e).is_none() {
+        if self.station(a).is_none() || self.station(e).is_none() {
             return Err(Trouble::Line);
         }
         match self.cable(a, e) {
@@ -214,11 +235,13 @@ impl Net {
 
     // A box loses all that it knew, and draws a new number.
     pub(crate) fn fall(&mut self, a: u8) -> Result<(), Trouble> {
-        let Some(node) = self.node(a) else {
+        let Some(station) = self.station(a) else {
             return Err(Trouble::Line);
         };
         let drawn = self.draw();
-        self.put(a, node.falls(drawn));
+        if let Ok(next) = station.falls(drawn) {
+            self.put(a, next);
+        }
         Ok(())
     }
 
@@ -295,72 +318,77 @@ impl Net {
         Ok(())
     }
 
+    // One box ticks: its hellos go out, and then its words, on rising wires.
     fn tick_box(&mut self, a: u8, out: &mut Vec<Letter>) -> Result<(), Trouble> {
-        let Some(node) = self.node(a) else {
+        let Some(station) = self.station(a) else {
             return Ok(());
         };
         let tag = self.draw();
-        let node = node.ticks(tag);
-        self.put(a, node);
+        let Ok(ticked) = station.tick(tag) else {
+            return Ok(());
+        };
+        self.put(a, ticked.station);
         for wire in 0u8..8 {
-            if let Some(hello) = node.links.hello_on(wire) {
+            if let Some(hello) = ticked.hellos[wire as usize] {
                 self.send_frame(End { at: a, wire }, Frame::Hello(hello), out)?;
             }
         }
-        for e in 0u8..64 {
-            let words = node.telling(e);
+        for wire in 0u8..8 {
+            let words = ticked.words[wire as usize];
             if words.count > 0 {
-                if let Some(wire) = node.links.wire_to(e) {
-                    self.send_frame(End { at: a, wire }, Frame::Words(words), out)?;
-                }
+                self.send_frame(End { at: a, wire }, Frame::Words(words), out)?;
             }
         }
         Ok(())
     }
 
+    // A frame arrives; one that the box refuses changes nothing.
     fn arrive(&mut self, letter: Letter, out: &mut Vec<Letter>) -> Result<(), Trouble> {
         let End { at, wire } = letter.to;
-        let Some(node) = self.node(at) else {
-            return Ok(());
-        };
-        if let Frame::Hello(hello) = letter.frame {
-            self.put(at, node.hears_hello(wire, hello));
-            return Ok(());
-        }
-        let Some(from) = node.teller(wire) else {
+        let Some(station) = self.station(at) else {
             return Ok(());
         };
         match letter.frame {
-            Frame::Hello(_) => Ok(()),
+            Frame::Hello(hello) => {
+                if let Ok(next) = station.hears_hello(wire, hello) {
+                    self.put(at, next);
+                }
+                Ok(())
+            }
             Frame::Seens(seens) => {
-                self.put(at, node.hears_seens(from, seens));
-                Ok(())
-            }
-            Frame::Words(words) => {
-                let tags = [self.draw(), self.draw(), self.draw(), self.draw()];
-                let node = node.hears_words(from, words, tags);
-                self.put(at, node);
-                let (seens, news) = node.answers(words);
-                let Some(back) = node.links.wire_to(from) else {
-                    return Ok(());
-                };
-                if seens.count > 0 {
-                    self.send_frame(End { at, wire: back }, Frame::Seens(seens), out)?;
-                }
-                if news.count > 0 {
-                    self.send_frame(End { at, wire: back }, Frame::Words(news), out)?;
+                if let Ok(next) = station.hears_seens(wire, seens) {
+                    self.put(at, next);
                 }
                 Ok(())
             }
+            Frame::Words(words) => self.arrive_words(End { at, wire }, station, words, out),
         }
+    }
+
+    // A packet of words arrives, and is answered by seens and by newer words.
+    fn arrive_words(&mut self, end: End, station: Station, words: Words, out: &mut Vec<Letter>) -> Result<(), Trouble> {
+        let tags = [self.draw(), self.draw(), self.draw(), self.draw()];
+        let Ok(heard) = station.hears_words(end.wire, words, tags) else {
+            return Ok(());
+        };
+        self.put(end.at, heard.station);
+        let back = End { at: end.at, wire: heard.wire };
+        if heard.seens.count > 0 {
+            self.send_frame(back, Frame::Seens(heard.seens), out)?;
+        }
+        if heard.words.count > 0 {
+            self.send_frame(back, Frame::Words(heard.words), out)?;
+        }
+        Ok(())
     }
 
     // A packet goes its whole way at this moment, each box handing it on by itself.
     pub(crate) fn send(&mut self, a: u8, e: u8) -> Result<Fate, Trouble> {
-        if self.node(a).is_none() || self.node(e).is_none() {
+        if self.station(a).is_none() || self.station(e).is_none() {
             return Err(Trouble::Line);
         }
-        let route = net::follow(self.boxes.as_slice(), a, e);
+        let routers = self.routers()?;
+        let route = net::follow(routers.as_slice(), a, e);
         let mut at = a;
         for k in 1u8..64 {
             if k <= route.steps {

@@ -2,7 +2,6 @@
 //
 // A thin program over the proved boxes: it reads lines, moves what the boxes send along the roads, and prints.
 mod engine;
-mod node;
 mod play;
 
 use play::Player;

@@ -63,7 +63,11 @@ fn answer_trouble(rt: &LibcRuntime, trouble: Trouble) -> io::Result<()> {
 }
 
 fn tell_rest(rt: &LibcRuntime, net: &Net) -> io::Result<()> {
-    if net.at_rest() { println!(rt, "rest") } else { println!(rt, "no rest") }
+    match net.at_rest() {
+        Ok(true) => println!(rt, "rest"),
+        Ok(false) => println!(rt, "no rest"),
+        Err(trouble) => answer_trouble(rt, trouble),
+    }
 }
 
 // A line of a net that is played already.

@@ -1,0 +1,11 @@
+pub mod Had
+pub mod Joining
+pub mod Scans
+pub mod Admitted
+pub mod Seeing
+pub mod Carrying
+pub mod LowestWire
+pub mod GoingOut
+pub mod TakingWords
+pub mod AnsweringWords
+pub mod Doing
