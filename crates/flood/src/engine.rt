@@ -167,7 +167,11 @@ impl Net {
         for w in 0u8..8 {
             costs[w as usize] = if w == end.wire { cost } else { links.cost(w) };
         }
-        let settings = Settings { boxes: links.boxes(), me: links.box_number(), costs };
+        let settings = Settings {
+            boxes: links.boxes(),
+            me: links.box_number(),
+            costs,
+        };
         if let Ok(next) = station.rewire(settings) {
             self.put(end.at, next);
         }
@@ -195,7 +199,13 @@ impl Net {
         };
         let first = End { at: a, wire: one };
         let second = End { at: e, wire: other };
-        self.cables.push(Cable { first, second, losing_there: 0, losing_back: 0 })?;
+        self.cables
+            .push(Cable {
+                first,
+                second,
+                losing_there: 0,
+                losing_back: 0,
+            })?;
         self.set_cost(first, cost);
         self.set_cost(second, back);
         Ok(())
@@ -205,7 +215,11 @@ impl Net {
         let Some(cable) = self.cables.get(k).copied() else {
             return Err(Trouble::Line);
         };
-        let (here, there) = if cable.first.at == a { (cable.first, cable.second) } else { (cable.second, cable.first) };
+        let (here, there) = if cable.first.at == a {
+            (cable.first, cable.second)
+        } else {
+            (cable.second, cable.first)
+        };
         self.set_cost(here, cost);
         self.set_cost(there, back);
         if cost == 0 {
@@ -266,7 +280,11 @@ impl Net {
             return false;
         };
         let there = cable.first.at == a;
-        let losing = if there { cable.losing_there } else { cable.losing_back };
+        let losing = if there {
+            cable.losing_there
+        } else {
+            cable.losing_back
+        };
         if losing == 0 {
             return true;
         }
@@ -279,7 +297,12 @@ impl Net {
     }
 
     // A box sends a frame on one of its wires; unless the wire loses it, it arrives at the other end.
-    fn send_frame(&mut self, from: End, frame: Frame, out: &mut Vec<Letter>) -> Result<(), Trouble> {
+    fn send_frame(
+        &mut self,
+        from: End,
+        frame: Frame,
+        out: &mut Vec<Letter>,
+    ) -> Result<(), Trouble> {
         for k in 0..self.cables.len() {
             let Some(cable) = self.cables.get(k).copied() else {
                 return Ok(());
@@ -366,13 +389,22 @@ impl Net {
     }
 
     // A packet of words arrives, and is answered by seens and by newer words.
-    fn arrive_words(&mut self, end: End, station: Station, words: Words, out: &mut Vec<Letter>) -> Result<(), Trouble> {
+    fn arrive_words(
+        &mut self,
+        end: End,
+        station: Station,
+        words: Words,
+        out: &mut Vec<Letter>,
+    ) -> Result<(), Trouble> {
         let tags = [self.draw(), self.draw(), self.draw(), self.draw()];
         let Ok(heard) = station.hears_words(end.wire, words, tags) else {
             return Ok(());
         };
         self.put(end.at, heard.station);
-        let back = End { at: end.at, wire: heard.wire };
+        let back = End {
+            at: end.at,
+            wire: heard.wire,
+        };
         if heard.seens.count > 0 {
             self.send_frame(back, Frame::Seens(heard.seens), out)?;
         }
@@ -401,12 +433,14 @@ impl Net {
                 at = next;
             }
         }
-        Ok(match route.ending {
-            Ending::Arrived => Fate::Way(route.way, route.steps, route.cost),
-            Ending::NoWay(at) => Fate::Refused(at, 8),
-            Ending::Closed(at) => Fate::Refused(at, 9),
-            Ending::Worn => Fate::Refused(at, 7),
-        })
+        Ok(
+            match route.ending {
+                Ending::Arrived => Fate::Way(route.way, route.steps, route.cost),
+                Ending::NoWay(at) => Fate::Refused(at, 8),
+                Ending::Closed(at) => Fate::Refused(at, 9),
+                Ending::Worn => Fate::Refused(at, 7),
+            },
+        )
     }
 }
 

@@ -1,12 +1,12 @@
 // What the bytes on a wire are: the kind, and what follows it.
 use crate::hello_bytes::hello;
 use crate::values::Frame;
+use messages::Seens;
+use messages::Words;
 use octets::Fault;
 use octets::Reader;
 use octets::put_byte;
 use octets::put_bytes;
-use messages::Seens;
-use messages::Words;
 use wordframes::put_seens;
 use wordframes::put_words;
 use wordframes::read_seens;

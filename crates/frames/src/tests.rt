@@ -39,7 +39,35 @@ fn first_fault() -> Result<(), Fail> {
 
 #[test]
 fn count_too_large() -> Result<(), Fail> {
-    let mut seen = [3, 0, 0, 0, 0, 0, 0, 0, 1, 1, 2, 128, 0, 0, 0, 0, 0, 0, 0, 0, 0, 0, 0, 0, 0, 0, 0];
+    let mut seen = [
+        3,
+        0,
+        0,
+        0,
+        0,
+        0,
+        0,
+        0,
+        1,
+        1,
+        2,
+        128,
+        0,
+        0,
+        0,
+        0,
+        0,
+        0,
+        0,
+        0,
+        0,
+        0,
+        0,
+        0,
+        0,
+        0,
+        0,
+    ];
     check_eq(fault_in(&seen), 11)?;
     check_eq(fault_in(&seen[0..26]), 1)?;
     seen[11] = 127;
@@ -50,7 +78,40 @@ fn count_too_large() -> Result<(), Fail> {
 fn roads_rise() -> Result<(), Fail> {
     // one word of box 0 with roads to 1 and 3, at costs 5 and 256
     let mut told = [
-        2, 0, 0, 0, 0, 0, 0, 0, 1, 1, 0, 0, 0, 0, 0, 0, 0, 0, 1, 0, 0, 0, 0, 0, 0, 0, 0, 2, 1, 0, 5, 3, 1, 0,
+        2,
+        0,
+        0,
+        0,
+        0,
+        0,
+        0,
+        0,
+        1,
+        1,
+        0,
+        0,
+        0,
+        0,
+        0,
+        0,
+        0,
+        0,
+        1,
+        0,
+        0,
+        0,
+        0,
+        0,
+        0,
+        0,
+        0,
+        2,
+        1,
+        0,
+        5,
+        3,
+        1,
+        0,
     ];
     check_eq(fault_in(&told), 0)?;
     told[28] = 3;

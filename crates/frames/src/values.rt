@@ -1,9 +1,9 @@
 // What frames and journal lines hold.
 use messages::Hello;
-use messages::Word;
-use octets::Fault;
 use messages::Seens;
+use messages::Word;
 use messages::Words;
+use octets::Fault;
 ghost use mathlib.Core.Path.{_≡_};
 ghost use Rattle.frames.specs.Faults.{faultNumber};
 

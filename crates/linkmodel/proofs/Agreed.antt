@@ -56,23 +56,51 @@ fair-one : (other : Run) (may : Hello → Type 0) (b : Bool) (k : ℕ) (s : Link
 fair-one other may b k s e f i m =
     let c = came b (passes s) i m in
     subst (Fair other 0 k may) (sym (c .2))
-      ((λ _. f (helloFor 0 (passes s)) (c .0) (record { step = k; so-far = omega arith; lately = omega arith; goes = subst (λ (x : Links). sendsHello 0 (passes x) ≡ true) (sym e) (c .1); is = ap (λ (x : Links). helloFor 0 (passes x)) (sym e) })), λ n. absurd (n refl))
+    ((λ _. f (helloFor 0 (passes s)) (c .0) (record { step = k; so-far = omega arith; lately = omega arith; goes = subst (λ (x : Links). sendsHello 0 (passes x) ≡ true) (sym e) (c .1); is = ap (λ (x : Links). helloFor 0 (passes x)) (sym e) })), λ n. absurd (n refl))
 
 end-zeroth : (line : ℕ → Bool) → End (zeroth line) (first line) 0 (SentLately (first line) 0)
-end-zeroth line = record { box = omega arith; net = refl; apart = λ e. omega arith; drew = omega arith; there = omega arith; costs = omega arith; past = omega arith;
-  fair = λ k. fair-one (first line) (SentLately (first line) 0 k) true k (pair line k .1) (at-first line k) (λ h _ p. p) }
+end-zeroth line = record {
+  box = omega arith;
+  net = refl;
+  apart = λ e. omega arith;
+  drew = omega arith;
+  there = omega arith;
+  costs = omega arith;
+  past = omega arith;
+  fair = λ k. fair-one (first line) (SentLately (first line) 0 k) true k (pair line k .1) (at-first line k) (λ h _ p. p);
+}
 
 end-first : (line : ℕ → Bool) (may : ℕ → Hello → Type 0) → ((k : ℕ) (h : Hello) → line k ≡ true → SentLately (zeroth line) 0 k h → may k h) → End (first line) (zeroth line) 0 may
-end-first line may f = record { box = omega arith; net = refl; apart = λ e. omega arith; drew = omega arith; there = omega arith; costs = omega arith; past = omega arith;
-  fair = λ k. fair-one (zeroth line) (may k) (line k) k (pair line k .0) (at-zeroth line k) (f k) }
+end-first line may f = record {
+  box = omega arith;
+  net = refl;
+  apart = λ e. omega arith;
+  drew = omega arith;
+  there = omega arith;
+  costs = omega arith;
+  past = omega arith;
+  fair = λ k. fair-one (zeroth line) (may k) (line k) k (pair line k .0) (at-zeroth line k) (f k);
+}
 
 comes-one : (one other : Run) (j : ℕ) (s : Links) → linksAt other j ≡ s → one .met j ≡ coming true (passes s) → sendsHello 0 (tickedAt other j) ≡ true → Came one other 0 0 j
-comes-one one other j s e m q = (j, omega arith, omega arith,
-  subst (λ (l : List Input). isOf (Hears 0 (helloFor 0 (tickedAt other j))) l) (sym m) (subst (λ (x : Links). isOf (Hears 0 (helloFor 0 (passes x))) (coming true (passes s))) (sym e) (goes-on true (passes s) refl (subst (λ (x : Links). sendsHello 0 (passes x) ≡ true) e q))))
+comes-one one other j s e m q = (
+  j,
+  omega arith,
+  omega arith,
+  subst (λ (l : List Input). isOf (Hears 0 (helloFor 0 (tickedAt other j))) l) (sym m) (subst (λ (x : Links). isOf (Hears 0 (helloFor 0 (passes x))) (coming true (passes s))) (sym e) (goes-on true (passes s) refl (subst (λ (x : Links). sendsHello 0 (passes x) ≡ true) e q))),
+)
 
 pub can-agree : CanAgree
-can-agree =
-    ((zeroth (λ k. true), first (λ k. true), 0, 0, end-zeroth (λ k. true), end-first (λ k. true) (SentLately (zeroth (λ k. true)) 0) (λ k h _ p. p),
-      (λ j _ q. inl (comes-one (zeroth (λ k. true)) (first (λ k. true)) j (pair (λ k. true) j .1) (at-first (λ k. true) j) refl q)),
-      (λ j _ q. inl (comes-one (first (λ k. true)) (zeroth (λ k. true)) j (pair (λ k. true) j .0) (at-zeroth (λ k. true) j) refl q))),
-    (λ m. (zeroth (λ k. ltb k m), first (λ k. ltb k m), 0, 0, end-zeroth (λ k. ltb k m), end-first (λ k. ltb k m) (λ k h. (k < m) × SentLately (zeroth (λ k. ltb k m)) 0 k h) (λ k h e p. (ltb-true k m e, p)))))
+can-agree = (
+  (
+    zeroth (λ k. true),
+    first (λ k. true),
+    0,
+    0,
+    end-zeroth (λ k. true),
+    end-first (λ k. true) (SentLately (zeroth (λ k. true)) 0) (λ k h _ p. p),
+    (λ j _ q. inl (comes-one (zeroth (λ k. true)) (first (λ k. true)) j (pair (λ k. true) j .1) (at-first (λ k. true) j) refl q)),
+    (λ j _ q. inl (comes-one (first (λ k. true)) (zeroth (λ k. true)) j (pair (λ k. true) j .0) (at-zeroth (λ k. true) j) refl q)),
+  ),
+  (λ m. (zeroth (λ k. ltb k m), first (λ k. ltb k m), 0, 0, end-zeroth (λ k. ltb k m), end-first (λ k. ltb k m) (λ k h. (k < m) × SentLately (zeroth (λ k. ltb k m)) 0 k h) (λ k h e p. (ltb-true k m e, p)))),
+)

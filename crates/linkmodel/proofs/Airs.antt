@@ -61,9 +61,11 @@ pub framed-grows : (s r : Station) (ds : List ℕ) (b : ℕ) (f : Frame) → r .
 framed-grows s r ds b (Greets h) e g k = k
 framed-grows s r ds b (Tells p) e g k =
     (k .0, λ q. every-map (OldItem (s .box .word)) (OldItem (r .box .word)) (p .items) (λ x o. newer-upto (x .entry) (s .box .word (x .about)) (r .box .word (x .about)) o (g (x .about))) (k .1 (q ∙ e)))
-framed-grows s r ds b (Shows p) e g k =
-    (k .0, λ q. every-map (OldSight (s .box .word)) (OldSight (r .box .word)) (p .items)
-      (λ x o. after-upto (x .number) (x .tag) (s .box .word (x .about) .number) (s .box .word (x .about) .tag) (r .box .word (x .about) .number) (r .box .word (x .about) .tag) o (g (x .about))) (k .1 (q ∙ e)))
+framed-grows s r ds b (Shows p) e g k = (
+  k .0,
+  λ q. every-map (OldSight (s .box .word)) (OldSight (r .box .word)) (p .items)
+      (λ x o. after-upto (x .number) (x .tag) (s .box .word (x .about) .number) (s .box .word (x .about) .tag) (r .box .word (x .about) .number) (r .box .word (x .about) .tag) o (g (x .about))) (k .1 (q ∙ e)),
+)
 
 -- what a box sends is lawful
 pub sent-framed : (s : Station) (ds : List ℕ) (a : ℕ) (f : Frame) → s .links .me ≡ a → isIn (s .links .drawn) ds ≡ true → Sendable s f → Framed s ds a f
@@ -78,33 +80,32 @@ all-framed x a (o ∷ os) k h = every-append (SentSo x) (sentBy a os) (record { 
 
 -- one box changes and sends
 module _ (n : ℕ) (cables : Cables) (x : Air) (a : ℕ) (s : Station) (out : List Out) (ts : List ℕ) where
-
   changed-fits : (r : Station) → Change cables x a s → Fitting (numbers x) (wordsOf x) (r .links .last) (r .box) → Fitting (numbers (becomes a s out ts x)) (wordsOf (becomes a s out ts x)) (r .links .last) (r .box)
   changed-fits r c g f j h =
       at-row (λ (q : Station). r .links .last f ≡ q .links .drawn → newer (r .box .word j) (q .box .word j) ≡ false) a s (x .at) f
-        (λ e l. newer-upto (r .box .word j) (x .at a .box .word j) (s .box .word j)
-          (subst (λ (z : ℕ). newer (r .box .word j) (x .at z .box .word j) ≡ false) e (g f j h (l ∙ (c .drew ∙ ap (λ (z : ℕ). x .at z .links .drawn) (sym e))))) (c .grows j))
-        (λ _ l. g f j h l)
+      (λ e l. newer-upto (r .box .word j) (x .at a .box .word j) (s .box .word j)
+      (subst (λ (z : ℕ). newer (r .box .word j) (x .at z .box .word j) ≡ false) e (g f j h (l ∙ (c .drew ∙ ap (λ (z : ℕ). x .at z .links .drawn) (sym e))))) (c .grows j))
+      (λ _ l. g f j h l)
 
   changed-frame : Change cables x a s → (f : Sent) → SentSo x f → SentSo (becomes a s out ts x) f
   changed-frame c f o =
       at-row (λ (q : Station). Framed q (x .drawn) (f .by) (f .frame)) a s (x .at) (f .by)
-        (λ e. framed-grows (x .at (f .by)) s (x .drawn) (f .by) (f .frame) (subst (λ (z : ℕ). s .links .drawn ≡ x .at z .links .drawn) (sym e) (c .drew)) (subst (λ (z : ℕ). Grows (x .at z .box) (s .box)) (sym e) (c .grows)) o)
-        (λ _. o)
+      (λ e. framed-grows (x .at (f .by)) s (x .drawn) (f .by) (f .frame) (subst (λ (z : ℕ). s .links .drawn ≡ x .at z .links .drawn) (sym e) (c .drew)) (subst (λ (z : ℕ). Grows (x .at z .box) (s .box)) (sym e) (c .grows)) o)
+      (λ _. o)
 
   pub changed : Lawful n cables x → a < n → Change cables x a s → Sendables s out → Lawful n cables (becomes a s out ts x)
-  changed k an c o = record
-    { me = λ b. at-row (λ (q : Station). q .links .me ≡ b) a s (x .at) b (λ e. c .me ∙ sym e) (λ _. k .me b)
-    ; heard = λ b. at-row (λ (q : Station). HeardOnly (cables .to b) (q .links)) a s (x .at) b (λ e. subst (λ (z : ℕ). HeardOnly (cables .to z) (s .links)) (sym e) (c .heard)) (λ _. k .heard b)
-    ; own = λ b h. at-row (λ (q : Station). isIn (q .links .drawn) (x .drawn) ≡ true) a s (x .at) b (λ _. here) (λ _. k .own b h)
-    ; lasts = λ b e. at-row (λ (q : Station). Known (q .links .last e) (x .drawn)) a s (x .at) b (λ _. c .lasts e) (λ _. k .lasts b e)
-    ; frames = every-append (SentSo (becomes a s out ts x)) (sentBy a out) (x .sent)
+  changed k an c o = record {
+    me = λ b. at-row (λ (q : Station). q .links .me ≡ b) a s (x .at) b (λ e. c .me ∙ sym e) (λ _. k .me b);
+    heard = λ b. at-row (λ (q : Station). HeardOnly (cables .to b) (q .links)) a s (x .at) b (λ e. subst (λ (z : ℕ). HeardOnly (cables .to z) (s .links)) (sym e) (c .heard)) (λ _. k .heard b);
+    own = λ b h. at-row (λ (q : Station). isIn (q .links .drawn) (x .drawn) ≡ true) a s (x .at) b (λ _. here) (λ _. k .own b h);
+    lasts = λ b e. at-row (λ (q : Station). Known (q .links .last e) (x .drawn)) a s (x .at) b (λ _. c .lasts e) (λ _. k .lasts b e);
+    frames = every-append (SentSo (becomes a s out ts x)) (sentBy a out) (x .sent)
         (all-framed (becomes a s out ts x) a out (λ f. subst (λ (q : Station). Sendable q f → Framed q (x .drawn) a f) (sym (row-at a s (x .at))) (sent-framed s (x .drawn) a f (c .me) here))
-          (subst (λ (q : Station). Sendables q out) (sym (row-at a s (x .at))) o))
-        (every-map (SentSo x) (SentSo (becomes a s out ts x)) (x .sent) (changed-frame c) (k .frames))
-    ; shows = λ b. at-row (λ (q : Station). Fitting (numbers (becomes a s out ts x)) (wordsOf (becomes a s out ts x)) (q .links .last) (q .box)) a s (x .at) b
-        (λ _. changed-fits s c (c .fits)) (λ _. changed-fits (x .at b) c (k .shows b))
-    }
+        (subst (λ (q : Station). Sendables q out) (sym (row-at a s (x .at))) o))
+        (every-map (SentSo x) (SentSo (becomes a s out ts x)) (x .sent) (changed-frame c) (k .frames));
+    shows = λ b. at-row (λ (q : Station). Fitting (numbers (becomes a s out ts x)) (wordsOf (becomes a s out ts x)) (q .links .last) (q .box)) a s (x .at) b
+        (λ _. changed-fits s c (c .fits)) (λ _. changed-fits (x .at b) c (k .shows b));
+  }
     where
       here : isIn (s .links .drawn) (x .drawn) ≡ true
       here = subst (λ (z : ℕ). isIn z (x .drawn) ≡ true) (sym (c .drew)) (k .own a an)
@@ -134,19 +135,19 @@ unfolding isIn
 drawn-first d ds = or-left (eqb d d) (isIn d ds) (eq-eqb d d refl)
 
 pub fallen : (n : ℕ) (cables : Cables) (x : Air) (a d : ℕ) → Lawful n cables x → 0 < d → isIn d (x .drawn) ≡ false → Lawful n cables (fallsAt a d x)
-fallen n cables x a d k p q = record
-  { me = λ b. at-row (λ (r : Station). r .links .me ≡ b) a (falls d (x .at a)) (x .at) b (λ e. k .me a ∙ sym e) (λ _. k .me b)
-  ; heard = λ b. at-row (λ (r : Station). HeardOnly (cables .to b) (r .links)) a (falls d (x .at a)) (x .at) b (λ _ w f z. nobody f z) (λ _. k .heard b)
-  ; own = λ b h. at-row (λ (r : Station). isIn (r .links .drawn) (d ∷ x .drawn) ≡ true) a (falls d (x .at a)) (x .at) b (λ _. drawn-first d (x .drawn)) (λ _. known-more d (x .at b .links .drawn) (x .drawn) (k .own b h))
-  ; lasts = λ b e. at-row (λ (r : Station). Known (r .links .last e) (d ∷ x .drawn)) a (falls d (x .at a)) (x .at) b (λ _. inl refl) (λ _. known-on d (x .at b .links .last e) (x .drawn) (k .lasts b e))
-  ; frames = every-map (SentSo x) (SentSo (fallsAt a d x)) (x .sent)
+fallen n cables x a d k p q = record {
+  me = λ b. at-row (λ (r : Station). r .links .me ≡ b) a (falls d (x .at a)) (x .at) b (λ e. k .me a ∙ sym e) (λ _. k .me b);
+  heard = λ b. at-row (λ (r : Station). HeardOnly (cables .to b) (r .links)) a (falls d (x .at a)) (x .at) b (λ _ w f z. nobody f z) (λ _. k .heard b);
+  own = λ b h. at-row (λ (r : Station). isIn (r .links .drawn) (d ∷ x .drawn) ≡ true) a (falls d (x .at a)) (x .at) b (λ _. drawn-first d (x .drawn)) (λ _. known-more d (x .at b .links .drawn) (x .drawn) (k .own b h));
+  lasts = λ b e. at-row (λ (r : Station). Known (r .links .last e) (d ∷ x .drawn)) a (falls d (x .at a)) (x .at) b (λ _. inl refl) (λ _. known-on d (x .at b .links .last e) (x .drawn) (k .lasts b e));
+  frames = every-map (SentSo x) (SentSo (fallsAt a d x)) (x .sent)
       (λ f o. at-row (λ (r : Station). Framed r (d ∷ x .drawn) (f .by) (f .frame)) a (falls d (x .at a)) (x .at) (f .by)
-        (λ e. fallen-frame (x .at a) d (x .drawn) (f .by) (f .frame) p q (subst (λ (z : ℕ). Framed (x .at z) (x .drawn) (f .by) (f .frame)) e o))
-        (λ _. framed-more (x .at (f .by)) d (x .drawn) (f .by) (f .frame) o))
-      (k .frames)
-  ; shows = λ b. at-row (λ (r : Station). Fitting (numbers (fallsAt a d x)) (wordsOf (fallsAt a d x)) (r .links .last) (r .box)) a (falls d (x .at a)) (x .at) b
+      (λ e. fallen-frame (x .at a) d (x .drawn) (f .by) (f .frame) p q (subst (λ (z : ℕ). Framed (x .at z) (x .drawn) (f .by) (f .frame)) e o))
+      (λ _. framed-more (x .at (f .by)) d (x .drawn) (f .by) (f .frame) o))
+      (k .frames);
+  shows = λ b. at-row (λ (r : Station). Fitting (numbers (fallsAt a d x)) (wordsOf (fallsAt a d x)) (r .links .last) (r .box)) a (falls d (x .at a)) (x .at) b
       (λ _ f j h. true-not-false false h refl)
       (λ _ f j h. at-row (λ (r : Station). x .at b .links .last f ≡ r .links .drawn → newer (x .at b .box .word j) (r .box .word j) ≡ false) a (falls d (x .at a)) (x .at) f
-        (λ _ l. not-known d (x .drawn) p q (subst (λ (z : ℕ). Known z (x .drawn)) l (k .lasts b f)))
-        (λ _ l. k .shows b f j h l))
-  }
+      (λ _ l. not-known d (x .drawn) p q (subst (λ (z : ℕ). Known z (x .drawn)) l (k .lasts b f)))
+      (λ _ l. k .shows b f j h l));
+}

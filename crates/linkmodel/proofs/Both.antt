@@ -60,26 +60,26 @@ mark-greeted : (op : Bool) (w : ℕ) (h : Hello) (s : Links) → (op ≡ true �
 mark-greeted true w h s n = greeted-here w h s (n refl)
 mark-greeted false w h s n =
     subst (λ (x : Wire). (x ≡ Open (h .from) (h .drawn) (s .tick)) ⊎ (x ≡ Heard (h .from) (h .drawn) (s .tick)))
-      (sym (row-at w (cond (eqb (h .heard) (s .drawn)) (Open (h .from) (h .drawn) (s .tick)) (Heard (h .from) (h .drawn) (s .tick))) (λ v. cond (eqb (s .last (h .from)) (h .drawn)) (s .wire v) (closedTo (h .from) (s .wire v)))))
-      (of-cond (λ (x : Wire). (x ≡ Open (h .from) (h .drawn) (s .tick)) ⊎ (x ≡ Heard (h .from) (h .drawn) (s .tick))) (eqb (h .heard) (s .drawn)) (Open (h .from) (h .drawn) (s .tick)) (Heard (h .from) (h .drawn) (s .tick)) (λ _. inl refl) (λ _. inr refl))
+    (sym (row-at w (cond (eqb (h .heard) (s .drawn)) (Open (h .from) (h .drawn) (s .tick)) (Heard (h .from) (h .drawn) (s .tick))) (λ v. cond (eqb (s .last (h .from)) (h .drawn)) (s .wire v) (closedTo (h .from) (s .wire v)))))
+    (of-cond (λ (x : Wire). (x ≡ Open (h .from) (h .drawn) (s .tick)) ⊎ (x ≡ Heard (h .from) (h .drawn) (s .tick))) (eqb (h .heard) (s .drawn)) (Open (h .from) (h .drawn) (s .tick)) (Heard (h .from) (h .drawn) (s .tick)) (λ _. inl refl) (λ _. inr refl))
 
 -- who says hello on a wire is known there
 pub known-greeted : (op : Bool) (w f d : ℕ) (h : Hello) (s : Links) → h .from ≡ f → h .drawn ≡ d → (op ≡ true → h .heard ≡ s .drawn) → Known op w f d (s .tick) (greeted w h s)
 known-greeted op w f d h s a b n =
     subst (λ (x : ℕ). Known op w x d (s .tick) (greeted w h s)) a (subst (λ (x : ℕ). Known op w (h .from) x (s .tick) (greeted w h s)) b
-      (record { last = row-at (h .from) (h .drawn) (s .last); when = s .tick; lasts = omega arith; mark = mark-greeted op w h s n }))
+    (record { last = row-at (h .from) (h .drawn) (s .last); when = s .tick; lasts = omega arith; mark = mark-greeted op w h s n }))
 
 -- and stays known when a hello comes on another wire, if this has the same number or is of another box
 known-away : (op : Bool) (w f d since u : ℕ) (g : Hello) (s : Links) → (w ≡ u → ⊥) → (g .from ≡ f → g .drawn ≡ d) → Known op w f d since s → Known op w f d since (greeted u g s)
-known-away op w f d since u g s a b k = record
-  { last = of-cond (λ (x : ℕ). x ≡ d) (eqb f (g .from)) (g .drawn) (s .last f) (λ i. b (sym (eqb-true f (g .from) i))) (λ _. k .last)
-  ; when = k .when
-  ; lasts = k .lasts
-  ; mark = subst (Mark op f d (k .when))
+known-away op w f d since u g s a b k = record {
+  last = of-cond (λ (x : ℕ). x ≡ d) (eqb f (g .from)) (g .drawn) (s .last f) (λ i. b (sym (eqb-true f (g .from) i))) (λ _. k .last);
+  when = k .when;
+  lasts = k .lasts;
+  mark = subst (Mark op f d (k .when))
       (sym (row-off u w (cond (eqb (g .heard) (s .drawn)) (Open (g .from) (g .drawn) (s .tick)) (Heard (g .from) (g .drawn) (s .tick))) (λ v. cond (eqb (s .last (g .from)) (g .drawn)) (s .wire v) (closedTo (g .from) (s .wire v))) a))
       (of-cond (Mark op f d (k .when)) (eqb (s .last (g .from)) (g .drawn)) (s .wire w) (closedTo (g .from) (s .wire w)) (λ _. k .mark)
-        (λ j. mark-closed op (g .from) f d (k .when) (s .wire w) (λ e. eqb-false (s .last (g .from)) (g .drawn) j (ap (s .last) (sym e) ∙ (k .last ∙ sym (b (sym e))))) (k .mark)))
-  }
+      (λ j. mark-closed op (g .from) f d (k .when) (s .wire w) (λ e. eqb-false (s .last (g .from)) (g .drawn) j (ap (s .last) (sym e) ∙ (k .last ∙ sym (b (sym e))))) (k .mark)));
+}
 
 known-since : (op : Bool) (w f d t since : ℕ) (s : Links) → since ≤ t → Known op w f d t s → Known op w f d since s
 known-since op w f d t since s h k = record { last = k .last; when = k .when; lasts = omega (arith, k .lasts); mark = k .mark }
@@ -104,9 +104,9 @@ module _ (one other : Run) (w v : ℕ) (en : End one other w (SentLately other v
   third-at zero = λ g d t e n. let z : whenOn (one .start .wire w) ≡ t = ap whenOn e in omega (arith, en .past)
   third-at (suc k) = of-list (λ s. Third (s .wire w)) (Fair other w k (SentLately other v k))
       (λ i s f q. of-fair Third other w k (SentLately other v k) i s f q
-        (λ h p _ g d t e n. let z : h .from ≡ g = cc in absurd (n (sym z ∙ sent-by k h p .0)))
-        (λ h p g d t e n. heard-wire (h .from) (h .drawn) (s .tick) g d t e)
-        (λ f x r g d t e n. r g d t (closed-open f x g d t e .0) n))
+      (λ h p _ g d t e n. let z : h .from ≡ g = cc in absurd (n (sym z ∙ sent-by k h p .0)))
+      (λ h p g d t e n. heard-wire (h .from) (h .drawn) (s .tick) g d t e)
+      (λ f x r g d t e n. r g d t (closed-open f x g d t e .0) n))
       (one .met k) (en .fair k) (tickedAt one k) (λ g d t e n. third-at k g d t (aged-open (suc (linksAt one k .tick)) (linksAt one k .wire w) g d t e .0) n)
     where
       Third : Wire → Type 0
@@ -147,22 +147,25 @@ module _ (one other : Run) (w v : ℕ) (en : End one other w (SentLately other v
           let z : w ≡ u = eqb-true w u e in
           let p : SentLately other v k h = f .0 (sym z) in
           subst (λ (x : ℕ). Known op w (other .start .me) (other .start .drawn) since (greeted x h s)) z
-            (known-since op w (other .start .me) (other .start .drawn) (s .tick) since (greeted w h s) (omega (arith, st .tick))
-              (known-greeted op w (other .start .me) (other .start .drawn) h s (sent-by k h p .0) (sent-by k h p .1) (λ o. nm o k h l p ∙ sym (st .number))))
+          (known-since op w (other .start .me) (other .start .drawn) (s .tick) since (greeted w h s) (omega (arith, st .tick))
+          (known-greeted op w (other .start .me) (other .start .drawn) h s (sent-by k h p .0) (sent-by k h p .1) (λ o. nm o k h l p ∙ sym (st .number))))
       go false e = known-away op w (other .start .me) (other .start .drawn) since u h s (eqb-false w u e) (λ z. f .1 (λ y. eqb-false w u e (sym y)) z ∙ steady-at other one v may eo k .number) kn
-  known-meets op q nm k now since l b (Rewires c) s f st kn = record
-    { last = kn .last; when = kn .when; lasts = kn .lasts
-    ; mark = of-cond (Mark op (other .start .me) (other .start .drawn) (kn .when)) (eqb (c w) 0) Silent (s .wire w) (λ j. let z : c w ≡ 0 = eqb-true (c w) 0 j in absurd (omega arith)) (λ _. kn .mark) }
+  known-meets op q nm k now since l b (Rewires c) s f st kn = record {
+    last = kn .last;
+    when = kn .when;
+    lasts = kn .lasts;
+    mark = of-cond (Mark op (other .start .me) (other .start .drawn) (kn .when)) (eqb (c w) 0) Silent (s .wire w) (λ j. let z : c w ≡ 0 = eqb-true (c w) 0 j in absurd (omega arith)) (λ _. kn .mark);
+  }
   known-meets op q nm k now since l b (Fell d) s f st kn = absurd f
 
   -- a hello that comes makes the other known
   known-comes : (op : Bool) (q : ℕ) → Naming op q → (k now : ℕ) → q ≤ k → (h : Hello) → SentLately other v k h → (is : List Input) → ((i : Input) → isOf i is → Fair other w k (SentLately other v k) i) → isOf (Hears w h) is → (s : Links) → Steady one w now s → Free (other .start .me) (s .wire w) →
-    Known op w (other .start .me) (other .start .drawn) now (linksAfter s is)
+      Known op w (other .start .me) (other .start .drawn) now (linksAfter s is)
   unfolding isOf linksAfter
   known-comes op q nm k now l h p [] f m s st fr = absurd m
   known-comes op q nm k now l h p (i ∷ is) f (inr m) s st fr =
       known-meets op q nm k now now l (omega arith) i (linksAfter s is) (f i (inl refl)) (of-list (Steady one w now) (Fair other w k (SentLately other v k)) (λ i s f. steady-meets one other w now k (SentLately other v k) i s f) is (λ j y. f j (inr y)) s st)
-        (known-comes op q nm k now l h p is (λ j y. f j (inr y)) m s st fr)
+      (known-comes op q nm k now l h p is (λ j y. f j (inr y)) m s st fr)
   known-comes op q nm k now l h p (i ∷ is) f (inl m) s st fr =
       let x = linksAfter s is in
       let sx : Steady one w now x = of-list (Steady one w now) (Fair other w k (SentLately other v k)) (λ i s f. steady-meets one other w now k (SentLately other v k) i s f) is (λ j y. f j (inr y)) s st in
@@ -170,8 +173,8 @@ module _ (one other : Run) (w v : ℕ) (en : End one other w (SentLately other v
       let b = sent-by k h p in
       let acc : accepts w h x ≡ true = accepting w h x (en .there) (sx .costs) (rw (b .0, sx .boxes, en .net) (eo .box)) (λ z. en .apart (sym (sx .self) ∙ (sym z ∙ b .0))) (rw (b .1) (eo .drew)) (rw (b .0) (free-taken (other .start .me) (x .wire w) fx)) in
       subst (λ (y : Input). Known op w (other .start .me) (other .start .drawn) now (meets y x)) m
-        (subst (Known op w (other .start .me) (other .start .drawn) now) (sym (cond-true (accepts w h x) (greeted w h x) x acc))
-          (known-since op w (other .start .me) (other .start .drawn) (x .tick) now (greeted w h x) (omega (arith, sx .tick)) (known-greeted op w (other .start .me) (other .start .drawn) h x (b .0) (b .1) (λ o. nm o k h l p ∙ sym (sx .number)))))
+      (subst (Known op w (other .start .me) (other .start .drawn) now) (sym (cond-true (accepts w h x) (greeted w h x) x acc))
+      (known-since op w (other .start .me) (other .start .drawn) (x .tick) now (greeted w h x) (omega (arith, sx .tick)) (known-greeted op w (other .start .me) (other .start .drawn) h x (b .0) (b .1) (λ o. nm o k h l p ∙ sym (sx .number)))))
 
   known-new : (op : Bool) (q : ℕ) → Naming op q → (j : ℕ) → q ≤ j → Free (other .start .me) (tickedAt one j .wire w) → (h : Hello) → isOf (Hears w h) (one .met j) → Known op w (other .start .me) (other .start .drawn) (one .start .tick + suc j) (linksAt one (suc j))
   unfolding linksAt
@@ -188,10 +191,12 @@ module _ (one other : Run) (w v : ℕ) (en : End one other w (SentLately other v
       go false e ih =
           let z : suc j ≤ k = omega (arith, eqb-false j k e) in
           of-list (λ s. Steady one w (one .start .tick + suc k) s × Known op w (other .start .me) (other .start .drawn) (one .start .tick + suc j) s) (Fair other w k (SentLately other v k))
-            (λ i s f p. (steady-meets one other w (one .start .tick + suc k) k (SentLately other v k) i s f (p .0),
-              known-meets op j nm k (one .start .tick + suc k) (one .start .tick + suc j) (omega arith) (omega arith) i s f (p .0) (p .1)))
-            (one .met k) (en .fair k) (tickedAt one k)
-            (steady-ticked one other w (SentLately other v) en k, known-passes op w (other .start .me) (other .start .drawn) (one .start .tick + suc j) (linksAt one k) (omega (arith, steady-at one other w (SentLately other v) en k .tick)) (ih z)) .1
+          (λ i s f p. (
+            steady-meets one other w (one .start .tick + suc k) k (SentLately other v k) i s f (p .0),
+            known-meets op j nm k (one .start .tick + suc k) (one .start .tick + suc j) (omega arith) (omega arith) i s f (p .0) (p .1),
+          ))
+          (one .met k) (en .fair k) (tickedAt one k)
+          (steady-ticked one other w (SentLately other v) en k, known-passes op w (other .start .me) (other .start .drawn) (one .start .tick + suc j) (linksAt one k) (omega (arith, steady-at one other w (SentLately other v) en k .tick)) (ih z)) .1
 
   -- hellos don't overtake each other: what comes from an arrival on was sent no earlier than what came then
   in-order : (q : ℕ) (a : Arrival one other w v q) (k : ℕ) (h : Hello) → a .step ≤ k → (p : SentLately other v k h) → q ≤ p .step
@@ -203,11 +208,11 @@ module _ (one other : Run) (w v : ℕ) (en : End one other w (SentLately other v
 
   -- the other is known from 32 steps on after enough came
   pub known-at : (op : Bool) (m q : ℕ) → Enough one other w v m → Names op q → m ≤ q → ((k : ℕ) → q ≤ k → Free (other .start .me) (tickedAt one k .wire w)) → (k : ℕ) → q + 32 ≤ k →
-    (t : ℕ) × Mark op (other .start .me) (other .start .drawn) t (linksAt one k .wire w) × Mark op (other .start .me) (other .start .drawn) t (tickedAt one k .wire w)
+      (t : ℕ) × Mark op (other .start .me) (other .start .drawn) t (linksAt one k .wire w) × Mark op (other .start .me) (other .start .drawn) t (tickedAt one k .wire w)
   known-at op m q en' nm l b k h =
       let a = arrival one other w v m may eo en' (k - 32) (omega arith) in
       let kn = known-hold op (a .step) (λ o i g z p. ap (λ (x : Hello). x .heard) (p .is) ∙ nm o (p .step) (omega (arith, in-order (k - 32) a i g z p))) (b (a .step) (omega (arith, a .from-on, a .so-far)))
-            (helloFor v (tickedAt other (a .sent))) (a .comes) k (omega (arith, a .soon)) (omega (arith, a .from-on, a .so-far)) in
+      (helloFor v (tickedAt other (a .sent))) (a .comes) k (omega (arith, a .soon)) (omega (arith, a .from-on, a .so-far)) in
       (kn .when, kn .mark, mark-aged op (suc (linksAt one k .tick)) (other .start .me) (other .start .drawn) (kn .when) (linksAt one k .wire w) (omega (arith, kn .lasts, steady-at one other w (SentLately other v) en k .tick, a .from-on, a .so-far)) (kn .mark))
 
 -- what one box sends from 32 steps on names the other's number; z is when its wire is free
@@ -218,7 +223,7 @@ names-at one other w v m z en eo h fr k l =
 
 -- so that it opens the other's wire in 32 steps more
 open-at : (one other : Run) (w v m z : ℕ) → End one other w (SentLately other v) → End other one v (SentLately one w) → Enough one other w v m → Enough other one v w m →
-  ((k : ℕ) → z ≤ k → Free (other .start .me) (tickedAt one k .wire w)) → ((k : ℕ) → z ≤ k → Free (one .start .me) (tickedAt other k .wire v)) → (k : ℕ) → m + z + 64 ≤ k → OpenTo other k (linksAt one k .wire w)
+    ((k : ℕ) → z ≤ k → Free (other .start .me) (tickedAt one k .wire w)) → ((k : ℕ) → z ≤ k → Free (one .start .me) (tickedAt other k .wire v)) → (k : ℕ) → m + z + 64 ≤ k → OpenTo other k (linksAt one k .wire w)
 open-at one other w v m z en eo h g fr fo k l =
     let p = known-at one other w v en (SentLately one w) eo true m (m + z + 32) h (λ o. names-at other one v w m z eo en g fo) (omega arith) (λ k b. fr k (omega arith)) k (omega arith) in
     (p .0, p .1 ∙ ap (λ (d : ℕ). Open (other .start .me) d (p .0)) (sym (steady-at other one v (SentLately one w) eo k .number)))

@@ -49,28 +49,28 @@ grows-on a b c p q i = newer-upto (a .word i) (b .word i) (c .word i) (p i) (q i
 pub has-fits : (d : ℕ → ℕ) (v : ℕ → ℕ → Entry) (last : ℕ → ℕ) (i : ℕ) (x : Entry) (b : Box) → Fitting d v last b → Fitting d v last (has i x b)
 has-fits d v last i x b k f j h c =
     of-cond (λ (y : Entry). newer y (v f j) ≡ false) (eqb j i) x (b .word j)
-      (λ e. true-not-false (eqb j i) e (not-was (eqb j i) (and-left (not (eqb j i)) (b .shown f j) h)))
-      (λ _. k f j (and-right (not (eqb j i)) (b .shown f j) h) c)
+    (λ e. true-not-false (eqb j i) e (not-was (eqb j i) (and-left (not (eqb j i)) (b .shown f j) h)))
+    (λ _. k f j (and-right (not (eqb j i)) (b .shown f j) h) c)
 
 pub has-grows : (i : ℕ) (x : Entry) (b : Box) → newer (b .word i) x ≡ false → Grows b (has i x b)
 has-grows i x b h j =
     of-cond (λ (y : Entry). newer (b .word j) y ≡ false) (eqb j i) x (b .word j)
-      (λ e. subst (λ (z : ℕ). newer (b .word z) x ≡ false) (sym (eqb-true j i e)) h)
-      (λ _. newer-self (b .word j))
+    (λ e. subst (λ (z : ℕ). newer (b .word z) x ≡ false) (sym (eqb-true j i e)) h)
+    (λ _. newer-self (b .word j))
 
 pub takes-fits : (d : ℕ → ℕ) (v : ℕ → ℕ → Entry) (last : ℕ → ℕ) (x : Word) (t : ℕ) (b : Box) → Fitting d v last b → Fitting d v last (takes x t b)
 takes-fits d v last x t b k =
     of-cond (Fitting d v last) (isNewTo x b) (has (x .about) (cond (eqb (b .me) (x .about)) (ownWord (x .entry .number) t b) (x .entry)) b) b
-      (λ _. has-fits d v last (x .about) (cond (eqb (b .me) (x .about)) (ownWord (x .entry .number) t b) (x .entry)) b k) (λ _. k)
+    (λ _. has-fits d v last (x .about) (cond (eqb (b .me) (x .about)) (ownWord (x .entry .number) t b) (x .entry)) b k) (λ _. k)
 
 pub takes-grows : (x : Word) (t : ℕ) (b : Box) → Grows b (takes x t b)
 takes-grows x t b =
     of-cond (Grows b) (isNewTo x b) (has (x .about) (cond (eqb (b .me) (x .about)) (ownWord (x .entry .number) t b) (x .entry)) b) b
-      (λ e. has-grows (x .about) (cond (eqb (b .me) (x .about)) (ownWord (x .entry .number) t b) (x .entry)) b
-        (of-cond (λ (y : Entry). newer (b .word (x .about)) y ≡ false) (eqb (b .me) (x .about)) (ownWord (x .entry .number) t b) (x .entry)
-          (λ _. newer-suc (x .entry) (b .word (x .about)) (ownWord (x .entry .number) t b) (and-right (isOpen (x .from) b) (newer (x .entry) (b .word (x .about))) e) refl)
-          (λ _. newer-asym (x .entry) (b .word (x .about)) (and-right (isOpen (x .from) b) (newer (x .entry) (b .word (x .about))) e))))
-      (λ _. grows-self b)
+    (λ e. has-grows (x .about) (cond (eqb (b .me) (x .about)) (ownWord (x .entry .number) t b) (x .entry)) b
+    (of-cond (λ (y : Entry). newer (b .word (x .about)) y ≡ false) (eqb (b .me) (x .about)) (ownWord (x .entry .number) t b) (x .entry)
+    (λ _. newer-suc (x .entry) (b .word (x .about)) (ownWord (x .entry .number) t b) (and-right (isOpen (x .from) b) (newer (x .entry) (b .word (x .about))) e) refl)
+    (λ _. newer-asym (x .entry) (b .word (x .about)) (and-right (isOpen (x .from) b) (newer (x .entry) (b .word (x .about))) e))))
+    (λ _. grows-self b)
 
 pub item-fits : (d : ℕ → ℕ) (v : ℕ → ℕ → Entry) (last : ℕ → ℕ) (e : ℕ) (x : Item) (t : ℕ) (b : Box) → Fitting d v last b → Fitting d v last (takesItem e x t b)
 item-fits d v last e x t b k =
@@ -100,7 +100,7 @@ sees-fits d v last e i c t b o k f j h l =
         let tn : t ≡ b .word i .tag = eqb-true t (b .word i .tag) (and-right (eqb c (b .word i .number)) (eqb t (b .word i .tag)) s3) in
         let old : after c t (v e i .number) (v e i .tag) ≡ false = o (subst (λ (z : ℕ). last z ≡ d z) fe l) in
         let now : newer (b .word i) (v e i) ≡ false =
-          subst (λ (z : ℕ). after (b .word i .number) z (v e i .number) (v e i .tag) ≡ false) tn (subst (λ (z : ℕ). after z t (v e i .number) (v e i .tag) ≡ false) cn old) in
+        subst (λ (z : ℕ). after (b .word i .number) z (v e i .number) (v e i .tag) ≡ false) tn (subst (λ (z : ℕ). after z t (v e i .number) (v e i .tag) ≡ false) cn old) in
         subst (λ (z : ℕ). newer (b .word j) (v z j) ≡ false) (sym fe) (subst (λ (z : ℕ). newer (b .word z) (v e z) ≡ false) (sym ji) now)
 
 pub mark-fits : (d : ℕ → ℕ) (v : ℕ → ℕ → Entry) (last : ℕ → ℕ) (fits : Bool) (e : ℕ) (x : Item) (b : Box) → (fits ≡ true → last e ≡ d e → OldItem (v e) x) → Fitting d v last b → Fitting d v last (marksItem fits e x b)
@@ -112,13 +112,13 @@ mark-grows fits e x b = of-cond (Grows b) fits (sees e (x .about) (x .entry .num
 
 -- a packet of words
 pub words-fit : (d : ℕ → ℕ) (v : ℕ → ℕ → Entry) (last : ℕ → ℕ) (fits : Bool) (e : ℕ) (xs : List Item) (ts : List ℕ) (b : Box) →
-  (fits ≡ true → last e ≡ d e → Every (OldItem (v e)) xs) → Fitting d v last b → Fitting d v last (takesAll fits e xs ts b)
+    (fits ≡ true → last e ≡ d e → Every (OldItem (v e)) xs) → Fitting d v last b → Fitting d v last (takesAll fits e xs ts b)
 unfolding takesAll
 words-fit d v last fits e [] ts b o k = k
 words-fit d v last fits e (x ∷ xs) [] b o k = k
 words-fit d v last fits e (x ∷ xs) (t ∷ ts) b o k =
     words-fit d v last fits e xs ts (marksItem fits e x (takesItem e x t b)) (λ y l. o y l .1)
-      (mark-fits d v last fits e x (takesItem e x t b) (λ y l. o y l .0) (item-fits d v last e x t b k))
+    (mark-fits d v last fits e x (takesItem e x t b) (λ y l. o y l .0) (item-fits d v last e x t b k))
 
 pub words-grow : (fits : Bool) (e : ℕ) (xs : List Item) (ts : List ℕ) (b : Box) → Grows b (takesAll fits e xs ts b)
 unfolding takesAll
@@ -159,4 +159,4 @@ owed-fits d v last t b k =
 pub owed-grows : (t : ℕ) (b : Box) → Grows b (saysIfOwed t b)
 owed-grows t b =
     of-cond (Grows b) (mustSay b && canSay (b .word (b .me) .number)) (saysNow t b) b
-      (λ _. has-grows (b .me) (ownWord (b .word (b .me) .number) t b) b (newer-next (b .word (b .me)) (ownWord (b .word (b .me) .number) t b) refl)) (λ _. grows-self b)
+    (λ _. has-grows (b .me) (ownWord (b .word (b .me) .number) t b) b (newer-next (b .word (b .me)) (ownWord (b .word (b .me) .number) t b) refl)) (λ _. grows-self b)

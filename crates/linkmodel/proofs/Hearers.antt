@@ -41,11 +41,11 @@ heard-rewired to c s k w f e = of-cond (λ (y : Wire). whoOn y ≡ Some f → f 
 heard-greeted : (to : ℕ → ℕ) (v : ℕ) (h : Hello) (s : Links) → h .from ≡ to v → HeardOnly to s → HeardOnly to (greeted v h s)
 heard-greeted to v h s j k w f e =
     of-cond (λ (y : Wire). whoOn y ≡ Some f → f ≡ to w) (eqb w v)
-      (cond (eqb (h .heard) (s .drawn)) (Open (h .from) (h .drawn) (s .tick)) (Heard (h .from) (h .drawn) (s .tick)))
-      (cond (eqb (s .last (h .from)) (h .drawn)) (s .wire w) (closedTo (h .from) (s .wire w)))
-      (λ q. of-cond (λ (y : Wire). whoOn y ≡ Some f → f ≡ to w) (eqb (h .heard) (s .drawn)) (Open (h .from) (h .drawn) (s .tick)) (Heard (h .from) (h .drawn) (s .tick)) (λ _ p. here (eqb-true w v q) p) (λ _ p. here (eqb-true w v q) p))
-      (λ _. of-cond (λ (y : Wire). whoOn y ≡ Some f → f ≡ to w) (eqb (s .last (h .from)) (h .drawn)) (s .wire w) (closedTo (h .from) (s .wire w)) (λ _ p. k w f p) (λ _ p. k w f (sym (closed-who (h .from) (s .wire w)) ∙ p)))
-      e
+    (cond (eqb (h .heard) (s .drawn)) (Open (h .from) (h .drawn) (s .tick)) (Heard (h .from) (h .drawn) (s .tick)))
+    (cond (eqb (s .last (h .from)) (h .drawn)) (s .wire w) (closedTo (h .from) (s .wire w)))
+    (λ q. of-cond (λ (y : Wire). whoOn y ≡ Some f → f ≡ to w) (eqb (h .heard) (s .drawn)) (Open (h .from) (h .drawn) (s .tick)) (Heard (h .from) (h .drawn) (s .tick)) (λ _ p. here (eqb-true w v q) p) (λ _ p. here (eqb-true w v q) p))
+    (λ _. of-cond (λ (y : Wire). whoOn y ≡ Some f → f ≡ to w) (eqb (s .last (h .from)) (h .drawn)) (s .wire w) (closedTo (h .from) (s .wire w)) (λ _ p. k w f p) (λ _ p. k w f (sym (closed-who (h .from) (s .wire w)) ∙ p)))
+    e
   where
     here : w ≡ v → Some (h .from) ≡ Some f → f ≡ to w
     here q p = let g : h .from ≡ f = cc in sym g ∙ (j ∙ ap to (sym q))
@@ -77,7 +77,7 @@ known-on c d ds (inr e) = inr (known-more c d ds e)
 pub hears-known : (ds : List ℕ) (v : ℕ) (h : Hello) (s : Links) → isIn (h .drawn) ds ≡ true → ((e : ℕ) → Known (s .last e) ds) → (e : ℕ) → Known (hearsHello v h s .last e) ds
 hears-known ds v h s j k e =
     of-cond (λ (y : Links). Known (y .last e) ds) (accepts v h s) (greeted v h s) s
-      (λ _. of-cond (λ (y : ℕ). Known y ds) (eqb e (h .from)) (h .drawn) (s .last e) (λ _. inr j) (λ _. k e)) (λ _. k e)
+    (λ _. of-cond (λ (y : ℕ). Known y ds) (eqb e (h .from)) (h .drawn) (s .last e) (λ _. inr j) (λ _. k e)) (λ _. k e)
 
 -- a hello leaves the box's own numbers
 pub hears-me : (v : ℕ) (h : Hello) (s : Links) → hearsHello v h s .me ≡ s .me

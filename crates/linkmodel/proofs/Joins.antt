@@ -20,12 +20,12 @@ use Rattle.linkmodel.proofs.Relinks.{relink-input}
 
 -- wires that met an input, and the roads that they then hold open
 join : (i : Input) (s : Station) → Joined s → Joined (relinkAs (meets i (s .links)) s)
-join i s j = record
-  { sound = sound-meets i (s .links) (j .sound)
-  ; count = meets-same i (s .links) .0 ∙ j .count
-  ; number = meets-same i (s .links) .1 ∙ j .number
-  ; roads = λ e. refl
-  }
+join i s j = record {
+  sound = sound-meets i (s .links) (j .sound);
+  count = meets-same i (s .links) .0 ∙ j .count;
+  number = meets-same i (s .links) .1 ∙ j .number;
+  roads = λ e. refl;
+}
 
 -- the events of an input, for a whole box
 input-so : (i : Input) (s : Station) (es : List Ev) → Does s es (relinks (s .links) (meets i (s .links)) (s .box .n)) (relinkAs (meets i (s .links)) s)
@@ -41,19 +41,20 @@ costs-so s es c = input-so (Rewires c) s es
 forgets-stands : (b : Box) (es : List Ev) → Stands b es → Stands (forgets b) (Falls (b .me) ∷ es)
 forgets-stands b es st =
     stands-of (b .n) (b .me) (forgets b) (Falls (b .me) ∷ es) (st .is-one)
-      (one-more (b .n) (b .me) es (Falls (b .me)) (forgets b) (like-falls (b .n) (b .me) (st .is-one) (world (b .n) es) (world-n (b .n) es) b (like-of (b .n) (b .me) b es (refl, refl, st)))) .2
+    (one-more (b .n) (b .me) es (Falls (b .me)) (forgets b) (like-falls (b .n) (b .me) (st .is-one) (world (b .n) es) (world-n (b .n) es) b (like-of (b .n) (b .me) b es (refl, refl, st)))) .2
 
 pub falls-so : FallsSo
 falls-so s es d j st =
-    let r = input-so (Fell d) s es j st in
-    ( record { sound = r .0 .sound; count = r .0 .count; number = r .0 .number; roads = r .0 .roads }
-    , forgets-stands (relinked (s .links) (fell d (s .links)) (s .box)) (relinks (s .links) (fell d (s .links)) (s .box .n) ++ es) (r .1) )
+    let r = input-so (Fell d) s es j st in (
+      record { sound = r .0 .sound; count = r .0 .count; number = r .0 .number; roads = r .0 .roads },
+      forgets-stands (relinked (s .links) (fell d (s .links)) (s .box)) (relinks (s .links) (fell d (s .links)) (s .box .n) ++ es) (r .1),
+    )
 
 -- a box that says a word with a new tag
 says-stands : (b : Box) (es : List Ev) (t : ℕ) → isIn t (world (b .n) es .drawn) ≡ false → Stands b es → Stands (saysNow t b) (Says (b .me) t ∷ es)
 says-stands b es t f st =
     stands-of (b .n) (b .me) (saysNow t b) (Says (b .me) t ∷ es) (st .is-one)
-      (one-more (b .n) (b .me) es (Says (b .me) t) (saysNow t b) (like-says (b .n) (b .me) (st .is-one) (world (b .n) es) (world-n (b .n) es) b t f (like-of (b .n) (b .me) b es (refl, refl, st)))) .2
+    (one-more (b .n) (b .me) es (Says (b .me) t) (saysNow t b) (like-says (b .n) (b .me) (st .is-one) (world (b .n) es) (world-n (b .n) es) b t f (like-of (b .n) (b .me) b es (refl, refl, st)))) .2
 
 -- roads draw no tags
 road-drawn : (n a e c : ℕ) (es : List Ev) → world n (Road a e c ∷ es) .drawn ≡ world n es .drawn
@@ -63,10 +64,10 @@ road-drawn n a e c es = of-cond (λ (u : World). u .drawn ≡ world n es .drawn)
 events-drawn : (before after : Links) (n e : ℕ) (es : List Ev) → world n (roadEvents before after e ++ es) .drawn ≡ world n es .drawn
 events-drawn before after n e es =
     of-cond (λ (l : List Ev). world n (l ++ es) .drawn ≡ world n es .drawn) (isAnew before after e && (ltb 0 (roadCost e before) && ltb 0 (roadCost e after)))
-      (Road (after .me) e (roadCost e after) ∷ Road (after .me) e 0 ∷ []) (cond (eqb (roadCost e before) (roadCost e after)) [] (Road (after .me) e (roadCost e after) ∷ []))
-      (λ _. road-drawn n (after .me) e (roadCost e after) (Road (after .me) e 0 ∷ es) ∙ road-drawn n (after .me) e 0 es)
-      (λ _. of-cond (λ (l : List Ev). world n (l ++ es) .drawn ≡ world n es .drawn) (eqb (roadCost e before) (roadCost e after)) [] (Road (after .me) e (roadCost e after) ∷ [])
-        (λ _. refl) (λ _. road-drawn n (after .me) e (roadCost e after) es))
+    (Road (after .me) e (roadCost e after) ∷ Road (after .me) e 0 ∷ []) (cond (eqb (roadCost e before) (roadCost e after)) [] (Road (after .me) e (roadCost e after) ∷ []))
+    (λ _. road-drawn n (after .me) e (roadCost e after) (Road (after .me) e 0 ∷ es) ∙ road-drawn n (after .me) e 0 es)
+    (λ _. of-cond (λ (l : List Ev). world n (l ++ es) .drawn ≡ world n es .drawn) (eqb (roadCost e before) (roadCost e after)) [] (Road (after .me) e (roadCost e after) ∷ [])
+    (λ _. refl) (λ _. road-drawn n (after .me) e (roadCost e after) es))
 
 relinks-drawn : (before after : Links) (n k : ℕ) (es : List Ev) → world n (relinks before after k ++ es) .drawn ≡ world n es .drawn
 unfolding relinks
@@ -81,9 +82,10 @@ ticks-so s es t f j st =
     let r = input-so Passes s es j st in
     let fs : List Ev = relinks (s .links) (passes (s .links)) (s .box .n) in
     let new : isIn t (world (s .box .n) (fs ++ es) .drawn) ≡ false = ap (isIn t) (relinks-drawn (s .links) (passes (s .links)) (s .box .n) (s .box .n) es) ∙ f in
-    let c : Bool = mustSay b && canSay (b .word (b .me) .number) in
-    ( of-cond (λ (x : Box). Joined (record { links = passes (s .links); box = x })) c (saysNow t b) b
-        (λ _. record { sound = r .0 .sound; count = r .0 .count; number = r .0 .number; roads = r .0 .roads }) (λ _. r .0)
-    , subst (Stands (saysIfOwed t b)) (sym (append-assoc (saying t b) fs es))
-        (both-cond (λ (l : List Ev) (x : Box). Stands x (l ++ (fs ++ es))) c c (Says (b .me) t ∷ []) [] (saysNow t b) b refl
-          (λ _. says-stands b (fs ++ es) t new (r .1)) (λ _. r .1)) )
+    let c : Bool = mustSay b && canSay (b .word (b .me) .number) in (
+      of-cond (λ (x : Box). Joined (record { links = passes (s .links); box = x })) c (saysNow t b) b
+          (λ _. record { sound = r .0 .sound; count = r .0 .count; number = r .0 .number; roads = r .0 .roads }) (λ _. r .0),
+      subst (Stands (saysIfOwed t b)) (sym (append-assoc (saying t b) fs es))
+          (both-cond (λ (l : List Ev) (x : Box). Stands x (l ++ (fs ++ es))) c c (Says (b .me) t ∷ []) [] (saysNow t b) b refl
+          (λ _. says-stands b (fs ++ es) t new (r .1)) (λ _. r .1)),
+    )

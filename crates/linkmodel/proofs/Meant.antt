@@ -41,8 +41,8 @@ some-path P f d p g e = let q : f ≡ g = cc in subst (λ (k : ℕ). P k d) q p
 pub heards-greeted : (P : ℕ → ℕ → Type 0) (v : ℕ) (h : Hello) (s : Links) → P (h .from) (h .drawn) → ((w : ℕ) → Heards P (s .wire w)) → (w : ℕ) → Heards P (greeted v h s .wire w)
 heards-greeted P v h s p k w =
     of-cond (Heards P) (eqb w v) (cond (eqb (h .heard) (s .drawn)) (Open (h .from) (h .drawn) (s .tick)) (Heard (h .from) (h .drawn) (s .tick))) (cond (eqb (s .last (h .from)) (h .drawn)) (s .wire w) (closedTo (h .from) (s .wire w)))
-      (λ _. of-cond (Heards P) (eqb (h .heard) (s .drawn)) (Open (h .from) (h .drawn) (s .tick)) (Heard (h .from) (h .drawn) (s .tick)) (λ _. some-path P (h .from) (h .drawn) p) (λ _. some-path P (h .from) (h .drawn) p))
-      (λ _. of-cond (Heards P) (eqb (s .last (h .from)) (h .drawn)) (s .wire w) (closedTo (h .from) (s .wire w)) (λ _. k w) (λ _. heards-closed P (h .from) (s .wire w) (k w)))
+    (λ _. of-cond (Heards P) (eqb (h .heard) (s .drawn)) (Open (h .from) (h .drawn) (s .tick)) (Heard (h .from) (h .drawn) (s .tick)) (λ _. some-path P (h .from) (h .drawn) p) (λ _. some-path P (h .from) (h .drawn) p))
+    (λ _. of-cond (Heards P) (eqb (s .last (h .from)) (h .drawn)) (s .wire w) (closedTo (h .from) (s .wire w)) (λ _. k w) (λ _. heards-closed P (h .from) (s .wire w) (k w)))
 
 -- once e, with the number r, had heard box b under the number x on some wire
 abbrev pub Met : (n : ℕ) (first : ℕ → ℕ) (ms : List Move) (e r b x : ℕ) → Type 0
@@ -59,8 +59,12 @@ honest-more n first m ms h k = record { one = k .one; drew = once-more n first m
   where
     go : (h .heard ≡ 0) ⊎ ((b : ℕ) × (b < n) × Had n first ms b (h .heard) × Met n first ms (h .from) (h .drawn) b (h .heard)) → (h .heard ≡ 0) ⊎ ((b : ℕ) × (b < n) × Had n first (m ∷ ms) b (h .heard) × Met n first (m ∷ ms) (h .from) (h .drawn) b (h .heard))
     go (inl z) = inl z
-    go (inr z) = inr (z .0, z .1, once-more n first m ms (λ x. x .box (z .0) .drawn ≡ h .heard) (z .2),
-      once-more n first m ms (λ y. (y .box (h .from) .drawn ≡ h .drawn) × ((v : ℕ) × (whoOn (y .box (h .from) .wire v) ≡ Some (z .0)) × (heardOn (y .box (h .from) .wire v) ≡ h .heard))) (z .3))
+    go (inr z) = inr (
+      z .0,
+      z .1,
+      once-more n first m ms (λ x. x .box (z .0) .drawn ≡ h .heard) (z .2),
+      once-more n first m ms (λ y. (y .box (h .from) .drawn ≡ h .drawn) × ((v : ℕ) × (whoOn (y .box (h .from) .wire v) ≡ Some (z .0)) × (heardOn (y .box (h .from) .wire v) ≡ h .heard))) (z .3),
+    )
 
 -- all boxes know themselves, what was sent is honest, and what is heard and open on their wires is so
 pub record Sane (n : ℕ) (first : ℕ → ℕ) (ms : List Move) : Type 0 where
@@ -125,7 +129,7 @@ module _ (n : ℕ) (first : ℕ → ℕ) (dr : Drawn n first) (m : Move) (ms : L
   heard-step a h = of-move (λ s. (w : ℕ) → Heards (λ f d. (f < n) × Had n first (m ∷ ms) f d) (s .wire w)) (Honest n first ms) n m (hellos n first ms) a (k .sent) old
       (λ w. heards-aged (λ f d. (f < n) × Had n first (m ∷ ms) f d) (suc (hellos n first ms .box a .tick)) (hellos n first ms .box a .wire w) (old w))
       (λ v g p. of-cond (λ (s : Links). (w : ℕ) → Heards (λ f d. (f < n) × Had n first (m ∷ ms) f d) (s .wire w)) (accepts v g (hellos n first ms .box a)) (greeted v g (hellos n first ms .box a)) (hellos n first ms .box a)
-        (λ _. heards-greeted (λ f d. (f < n) × Had n first (m ∷ ms) f d) v g (hellos n first ms .box a) (more-had (g .from) (g .drawn) (p .one, p .drew)) old) (λ _. old))
+      (λ _. heards-greeted (λ f d. (f < n) × Had n first (m ∷ ms) f d) v g (hellos n first ms .box a) (more-had (g .from) (g .drawn) (p .one, p .drew)) old) (λ _. old))
       (λ c w. of-cond (Heards (λ f d. (f < n) × Had n first (m ∷ ms) f d)) (eqb (c w) 0) Silent (hellos n first ms .box a .wire w) (λ _. heards-silent (λ f d. (f < n) × Had n first (m ∷ ms) f d)) (λ _. old w))
       (λ d _ _ w. heards-silent (λ f d. (f < n) × Had n first (m ∷ ms) f d))
     where
@@ -137,35 +141,43 @@ module _ (n : ℕ) (first : ℕ → ℕ) (dr : Drawn n first) (m : Move) (ms : L
   sent-step = of-sent (Honest n first (m ∷ ms)) n m (hellos n first ms) (each-more (Honest n first ms) (Honest n first (m ∷ ms)) (honest-more n first m ms) (hellos n first ms .sent) (k .sent)) new
     where
       new : (a w : ℕ) → a < n → hellos n first (m ∷ ms) .box a ≡ passes (hellos n first ms .box a) → Honest n first (m ∷ ms) (helloFor w (passes (hellos n first ms .box a)))
-      new a w h e = subst (λ (s : Links). Honest n first (m ∷ ms) (helloFor w s)) e (record
-        { one = rw (self-step a h .0) h
-        ; drew = rw (self-step a h .0) (once-now n first (m ∷ ms) (λ x. x .box a .drawn ≡ hellos n first (m ∷ ms) .box a .drawn) refl)
-        ; met = met (who-heard (hellos n first (m ∷ ms) .box a .wire w)) })
+      new a w h e = subst (λ (s : Links). Honest n first (m ∷ ms) (helloFor w s)) e (record {
+        one = rw (self-step a h .0) h;
+        drew = rw (self-step a h .0) (once-now n first (m ∷ ms) (λ x. x .box a .drawn ≡ hellos n first (m ∷ ms) .box a .drawn) refl);
+        met = met (who-heard (hellos n first (m ∷ ms) .box a .wire w));
+      })
         where
           met : (heardOn (hellos n first (m ∷ ms) .box a .wire w) ≡ 0) ⊎ ((f : ℕ) × (whoOn (hellos n first (m ∷ ms) .box a .wire w) ≡ Some f)) →
-            (heardOn (hellos n first (m ∷ ms) .box a .wire w) ≡ 0) ⊎ ((b : ℕ) × (b < n) × Had n first (m ∷ ms) b (heardOn (hellos n first (m ∷ ms) .box a .wire w)) × Met n first (m ∷ ms) (hellos n first (m ∷ ms) .box a .me) (hellos n first (m ∷ ms) .box a .drawn) b (heardOn (hellos n first (m ∷ ms) .box a .wire w)))
+              (heardOn (hellos n first (m ∷ ms) .box a .wire w) ≡ 0) ⊎ ((b : ℕ) × (b < n) × Had n first (m ∷ ms) b (heardOn (hellos n first (m ∷ ms) .box a .wire w)) × Met n first (m ∷ ms) (hellos n first (m ∷ ms) .box a .me) (hellos n first (m ∷ ms) .box a .drawn) b (heardOn (hellos n first (m ∷ ms) .box a .wire w)))
           met (inl z) = inl z
           met (inr z) =
               let p = heard-step a h w (z .0) (z .1) in
-              inr (z .0, p .0, p .1, rw (self-step a h .0) (once-now n first (m ∷ ms)
-                (λ y. (y .box a .drawn ≡ hellos n first (m ∷ ms) .box a .drawn) × ((v : ℕ) × (whoOn (y .box a .wire v) ≡ Some (z .0)) × (heardOn (y .box a .wire v) ≡ heardOn (hellos n first (m ∷ ms) .box a .wire w)))) (refl, (w, z .1, refl))))
+              inr (
+                z .0,
+                p .0,
+                p .1,
+                rw (self-step a h .0) (once-now n first (m ∷ ms)
+                    (λ y. (y .box a .drawn ≡ hellos n first (m ∷ ms) .box a .drawn) × ((v : ℕ) × (whoOn (y .box a .wire v) ≡ Some (z .0)) × (heardOn (y .box a .wire v) ≡ heardOn (hellos n first (m ∷ ms) .box a .wire w)))) (refl, (w, z .1, refl))),
+              )
 
   opens-step : (a : ℕ) → a < n → (w e r t : ℕ) → hellos n first (m ∷ ms) .box a .wire w ≡ Open e r t → Met n first (m ∷ ms) e r a (hellos n first (m ∷ ms) .box a .drawn)
   unfolding hellos
   opens-step a h = of-move (λ s. (w e r t : ℕ) → s .wire w ≡ Open e r t → Met n first (m ∷ ms) e r a (s .drawn)) (Honest n first ms) n m (hellos n first ms) a (k .sent) old
       (λ w e r t q. old w e r t (aged-open (suc (hellos n first ms .box a .tick)) (hellos n first ms .box a .wire w) e r t q .0))
       (λ v g p. of-cond (λ (s : Links). (w e r t : ℕ) → s .wire w ≡ Open e r t → Met n first (m ∷ ms) e r a (s .drawn)) (accepts v g (hellos n first ms .box a)) (greeted v g (hellos n first ms .box a)) (hellos n first ms .box a)
-        (λ _ w e r t q. greets v g p w e r t (greeted-open v g (hellos n first ms .box a) w e r t q)) (λ _. old))
+      (λ _ w e r t q. greets v g p w e r t (greeted-open v g (hellos n first ms .box a) w e r t q)) (λ _. old))
       (λ c w e r t. of-cond (λ (y : Wire). y ≡ Open e r t → Met n first (m ∷ ms) e r a (hellos n first ms .box a .drawn)) (eqb (c w) 0) Silent (hellos n first ms .box a .wire w) (λ _ q. shut-wire e r t q) (λ _ q. old w e r t q))
       (λ d _ _ w e r t q. shut-wire e r t q)
     where
       old : (w e r t : ℕ) → hellos n first ms .box a .wire w ≡ Open e r t → Met n first (m ∷ ms) e r a (hellos n first ms .box a .drawn)
       old w e r t q = more-met e r a (hellos n first ms .box a .drawn) (k .opens a h w e r t q)
+
       by-hello : (g : Hello) → (g .heard ≡ 0) ⊎ ((b : ℕ) × (b < n) × Had n first ms b (g .heard) × Met n first ms (g .from) (g .drawn) b (g .heard)) → g .heard ≡ hellos n first ms .box a .drawn → Met n first ms (g .from) (g .drawn) a (hellos n first ms .box a .drawn)
       by-hello g (inl z) q = absurd (omega (arith, k .self a h .1))
       by-hello g (inr z) q =
           let b : z .0 ≡ a = drawn-once n first dr ms (z .0) a (g .heard) (z .1) h (z .2) (once-now n first ms (λ x. x .box a .drawn ≡ g .heard) (sym q)) in
           subst (λ (x : ℕ). Met n first ms (g .from) (g .drawn) a x) q (subst (λ (x : ℕ). Met n first ms (g .from) (g .drawn) x (g .heard)) b (z .3))
+
       greets : (v : ℕ) (g : Hello) → Honest n first ms g → (w e r t : ℕ) → OpenedBy v g (hellos n first ms .box a) w e r t ⊎ OpenBefore v g (hellos n first ms .box a) w e r t → Met n first (m ∷ ms) e r a (hellos n first ms .box a .drawn)
       greets v g p w e r t (inl o) = more-met e r a (hellos n first ms .box a .drawn) (subst (λ (x : ℕ). Met n first ms x r a (hellos n first ms .box a .drawn)) (sym (o .who)) (subst (λ (x : ℕ). Met n first ms (g .from) x a (hellos n first ms .box a .drawn)) (sym (o .which)) (by-hello g (p .met) (o .names))))
       greets v g p w e r t (inr o) = old w e r t (o .was)

@@ -49,7 +49,7 @@ Had n first ms a r = Once n first ms (λ x. x .box a .drawn ≡ r)
 
 -- a property of every box after a move, from what can happen to it; G is so of each hello that was sent
 pub of-move : (Q : Links → Type 0) (G : Hello → Type 0) (n : ℕ) (m : Move) (x : Hellos) (e : ℕ) → Each G (x .sent) → Q (x .box e) → Q (passes (x .box e)) → ((w : ℕ) (h : Hello) → G h → Q (hearsHello w h (x .box e))) →
-  ((c : ℕ → ℕ) → Q (rewired c (x .box e))) → ((d : ℕ) → 0 < d → isIn d (x .drawn) ≡ false → Q (fell d (x .box e))) → Q (move n m x .box e)
+    ((c : ℕ → ℕ) → Q (rewired c (x .box e))) → ((d : ℕ) → 0 < d → isIn d (x .drawn) ≡ false → Q (fell d (x .box e))) → Q (move n m x .box e)
 unfolding arrivesNth Each
 of-move Q G n (Ticks a) x e g q p h c f = of-cond (λ (y : Hellos). Q (y .box e)) (ltb a n) (record { box = row a (passes (x .box a)) (x .box); sent = hellosOut (passes (x .box a)) wires ++ x .sent; drawn = x .drawn }) x
     (λ _. of-cond Q (eqb e a) (passes (x .box a)) (x .box e) (λ i. subst (λ (k : ℕ). Q (passes (x .box k))) (eqb-true e a i) p) (λ _. q)) (λ _. q)
@@ -63,8 +63,8 @@ of-move Q G n (Wired a cs) x e g q p h c f = of-cond (λ (y : Hellos). Q (y .box
     (λ _. of-cond Q (eqb e a) (rewired cs (x .box a)) (x .box e) (λ i. subst (λ (k : ℕ). Q (rewired cs (x .box k))) (eqb-true e a i) (c cs)) (λ _. q)) (λ _. q)
 of-move Q G n (Falls a d) x e g q p h c f = of-cond (λ (y : Hellos). Q (y .box e)) (ltb a n && (ltb 0 d && not (isIn d (x .drawn)))) (record { box = row a (fell d (x .box a)) (x .box); sent = x .sent; drawn = d ∷ x .drawn }) x
     (λ j. of-cond Q (eqb e a) (fell d (x .box a)) (x .box e) (λ i. subst (λ (k : ℕ). Q (fell d (x .box k))) (eqb-true e a i)
-      (f d (ltb-true 0 d (and-left (ltb 0 d) (not (isIn d (x .drawn))) (and-right (ltb a n) (ltb 0 d && not (isIn d (x .drawn))) j)))
-        (not-was (isIn d (x .drawn)) (and-right (ltb 0 d) (not (isIn d (x .drawn))) (and-right (ltb a n) (ltb 0 d && not (isIn d (x .drawn))) j))))) (λ _. q)) (λ _. q)
+    (f d (ltb-true 0 d (and-left (ltb 0 d) (not (isIn d (x .drawn))) (and-right (ltb a n) (ltb 0 d && not (isIn d (x .drawn))) j)))
+    (not-was (isIn d (x .drawn)) (and-right (ltb 0 d) (not (isIn d (x .drawn))) (and-right (ltb a n) (ltb 0 d && not (isIn d (x .drawn))) j))))) (λ _. q)) (λ _. q)
 
 -- a box has the number that it had, or has just drawn a new one
 pub move-drawn : (n : ℕ) (m : Move) (x : Hellos) (a : ℕ) → (move n m x .box a .drawn ≡ x .box a .drawn) ⊎ ((m ≡ Falls a (move n m x .box a .drawn)) × ((isIn (move n m x .box a .drawn) (x .drawn) ≡ false) × (isIn (move n m x .box a .drawn) (move n m x .drawn) ≡ true)))
@@ -82,11 +82,11 @@ move-drawn n (Wired b c) x a = inl (of-cond (λ (y : Hellos). y .box a .drawn �
     (λ _. of-cond (λ (y : Links). y .drawn ≡ x .box a .drawn) (eqb a b) (rewired c (x .box b)) (x .box a) (λ i. ap (λ (k : ℕ). x .box k .drawn) (sym (eqb-true a b i))) (λ _. refl)) (λ _. refl))
 move-drawn n (Falls b d) x a =
     of-cond (λ (y : Hellos). (y .box a .drawn ≡ x .box a .drawn) ⊎ ((Falls b d ≡ Falls a (y .box a .drawn)) × ((isIn (y .box a .drawn) (x .drawn) ≡ false) × (isIn (y .box a .drawn) (y .drawn) ≡ true))))
-      (ltb b n && (ltb 0 d && not (isIn d (x .drawn)))) (record { box = row b (fell d (x .box b)) (x .box); sent = x .sent; drawn = d ∷ x .drawn }) x
-      (λ j. of-cond (λ (y : Links). (y .drawn ≡ x .box a .drawn) ⊎ ((Falls b d ≡ Falls a (y .drawn)) × ((isIn (y .drawn) (x .drawn) ≡ false) × (isIn (y .drawn) (d ∷ x .drawn) ≡ true)))) (eqb a b) (fell d (x .box b)) (x .box a)
-        (λ i. inr (ap (λ (k : ℕ). Falls k d) (sym (eqb-true a b i)), (not-was (isIn d (x .drawn)) (and-right (ltb 0 d) (not (isIn d (x .drawn))) (and-right (ltb b n) (ltb 0 d && not (isIn d (x .drawn))) j)), or-left (eqb d d) (isIn d (x .drawn)) (eq-eqb d d refl))))
-        (λ _. inl refl))
-      (λ _. inl refl)
+    (ltb b n && (ltb 0 d && not (isIn d (x .drawn)))) (record { box = row b (fell d (x .box b)) (x .box); sent = x .sent; drawn = d ∷ x .drawn }) x
+    (λ j. of-cond (λ (y : Links). (y .drawn ≡ x .box a .drawn) ⊎ ((Falls b d ≡ Falls a (y .drawn)) × ((isIn (y .drawn) (x .drawn) ≡ false) × (isIn (y .drawn) (d ∷ x .drawn) ≡ true)))) (eqb a b) (fell d (x .box b)) (x .box a)
+    (λ i. inr (ap (λ (k : ℕ). Falls k d) (sym (eqb-true a b i)), (not-was (isIn d (x .drawn)) (and-right (ltb 0 d) (not (isIn d (x .drawn))) (and-right (ltb b n) (ltb 0 d && not (isIn d (x .drawn))) j)), or-left (eqb d d) (isIn d (x .drawn)) (eq-eqb d d refl))))
+    (λ _. inl refl))
+    (λ _. inl refl)
 
 -- what was drawn stays drawn
 pub still-drawn : (n : ℕ) (m : Move) (x : Hellos) (r : ℕ) → isIn r (x .drawn) ≡ true → isIn r (move n m x .drawn) ≡ true
@@ -118,7 +118,7 @@ now-drawn n first [] a h = first-drawn first n a h
 now-drawn n first (m ∷ ms) a h = go (move-drawn n m (hellos n first ms) a) (now-drawn n first ms a h)
   where
     go : (hellos n first (m ∷ ms) .box a .drawn ≡ hellos n first ms .box a .drawn) ⊎ ((m ≡ Falls a (hellos n first (m ∷ ms) .box a .drawn)) × ((isIn (hellos n first (m ∷ ms) .box a .drawn) (hellos n first ms .drawn) ≡ false) × (isIn (hellos n first (m ∷ ms) .box a .drawn) (hellos n first (m ∷ ms) .drawn) ≡ true))) →
-      isIn (hellos n first ms .box a .drawn) (hellos n first ms .drawn) ≡ true → isIn (hellos n first (m ∷ ms) .box a .drawn) (hellos n first (m ∷ ms) .drawn) ≡ true
+        isIn (hellos n first ms .box a .drawn) (hellos n first ms .drawn) ≡ true → isIn (hellos n first (m ∷ ms) .box a .drawn) (hellos n first (m ∷ ms) .drawn) ≡ true
     go (inl q) ih = subst (λ (r : ℕ). isIn r (hellos n first (m ∷ ms) .drawn) ≡ true) (sym q) (still-drawn n m (hellos n first ms) (hellos n first ms .box a .drawn) ih)
     go (inr q) ih = q .1 .1
 
@@ -138,7 +138,7 @@ unfolding hellos
 had-cases n first m ms a r o = go (once-split n first m ms (λ x. x .box a .drawn ≡ r) o) (move-drawn n m (hellos n first ms) a)
   where
     go : (hellos n first (m ∷ ms) .box a .drawn ≡ r) ⊎ Had n first ms a r → (hellos n first (m ∷ ms) .box a .drawn ≡ hellos n first ms .box a .drawn) ⊎ ((m ≡ Falls a (hellos n first (m ∷ ms) .box a .drawn)) × ((isIn (hellos n first (m ∷ ms) .box a .drawn) (hellos n first ms .drawn) ≡ false) × (isIn (hellos n first (m ∷ ms) .box a .drawn) (hellos n first (m ∷ ms) .drawn) ≡ true))) →
-      Had n first ms a r ⊎ ((m ≡ Falls a r) × (isIn r (hellos n first ms .drawn) ≡ false))
+        Had n first ms a r ⊎ ((m ≡ Falls a r) × (isIn r (hellos n first ms .drawn) ≡ false))
     go (inr q) z = inl q
     go (inl q) (inl p) = inl (once-now n first ms (λ x. x .box a .drawn ≡ r) (sym p ∙ q))
     go (inl q) (inr p) = inr (subst (λ (k : ℕ). (m ≡ Falls a k) × (isIn k (hellos n first ms .drawn) ≡ false)) q (p .0, p .1 .0))

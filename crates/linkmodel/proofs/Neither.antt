@@ -67,11 +67,13 @@ module _ (one other : Run) (w : ℕ) (may : ℕ → Hello → Type 0) (en : End 
   timely-at zero = omega (arith, en .past)
   timely-at (suc k) =
       of-list (λ s. Steady one w (one .start .tick + suc k) s × (whenOn (s .wire w) ≤ one .start .tick + suc k)) (Fair other w k (may k)) each (one .met k) (en .fair k) (tickedAt one k)
-        (steady-ticked one other w may en k, omega (arith, when-aged (suc (linksAt one k .tick)) (linksAt one k .wire w), timely-at k)) .1
+      (steady-ticked one other w may en k, omega (arith, when-aged (suc (linksAt one k .tick)) (linksAt one k .wire w), timely-at k)) .1
     where
       each : (i : Input) (s : Links) → Fair other w k (may k) i → Steady one w (one .start .tick + suc k) s × (whenOn (s .wire w) ≤ one .start .tick + suc k) → Steady one w (one .start .tick + suc k) (meets i s) × (whenOn (meets i s .wire w) ≤ one .start .tick + suc k)
-      each i s f p = (steady-meets one other w (one .start .tick + suc k) k (may k) i s f (p .0),
-        of-fair (λ x. whenOn x ≤ one .start .tick + suc k) other w k (may k) i s f (p .1) (λ h _ _. omega (arith, p .0 .tick)) (λ h _. omega (arith, p .0 .tick)) (λ g x q. omega (arith, when-closed g x)))
+      each i s f p = (
+        steady-meets one other w (one .start .tick + suc k) k (may k) i s f (p .0),
+        of-fair (λ x. whenOn x ≤ one .start .tick + suc k) other w k (may k) i s f (p .1) (λ h _ _. omega (arith, p .0 .tick)) (λ h _. omega (arith, p .0 .tick)) (λ g x q. omega (arith, when-closed g x)),
+      )
 
 -- an end at which nothing comes from step m on
 module _ (one other : Run) (w m : ℕ) (may : ℕ → Hello → Type 0) (en : End one other w may) (none : (k : ℕ) (h : Hello) → m ≤ k → may k h → ⊥) where
@@ -85,8 +87,8 @@ module _ (one other : Run) (w m : ℕ) (may : ℕ → Hello → Type 0) (en : En
       go false e ih =
           let l : m ≤ k = omega (arith, eqb-false m (suc k) e) in
           of-list (λ s. whenOn (s .wire w) ≤ one .start .tick + m) (Fair other w k (may k))
-            (λ i s f p. of-fair (λ x. whenOn x ≤ one .start .tick + m) other w k (may k) i s f p (λ g y _. absurd (none k g l y)) (λ g y. absurd (none k g l y)) (λ g x q. omega (arith, when-closed g x)))
-            (one .met k) (en .fair k) (tickedAt one k) (omega (arith, when-aged (suc (linksAt one k .tick)) (linksAt one k .wire w), ih l))
+          (λ i s f p. of-fair (λ x. whenOn x ≤ one .start .tick + m) other w k (may k) i s f p (λ g y _. absurd (none k g l y)) (λ g y. absurd (none k g l y)) (λ g x q. omega (arith, when-closed g x)))
+          (one .met k) (en .fair k) (tickedAt one k) (omega (arith, when-aged (suc (linksAt one k .tick)) (linksAt one k .wire w), ih l))
 
   -- it is silent 40 steps later
   pub silent-ticked : (k : ℕ) → m + 40 ≤ k → tickedAt one k .wire w ≡ Silent
@@ -110,16 +112,20 @@ module _ (one other : Run) (w q : ℕ) (may : ℕ → Hello → Type 0) (en : En
       go false e ih =
           let l : q ≤ k = omega (arith, eqb-false q (suc k) e) in
           of-list (λ s. Steady one w (one .start .tick + suc k) s × (openWhen (s .wire w) ≤ one .start .tick + q)) (Fair other w k (may k))
-            (λ i s f p. (steady-meets one other w (one .start .tick + suc k) k (may k) i s f (p .0),
-              of-fair (λ x. openWhen x ≤ one .start .tick + q) other w k (may k) i s f (p .1) (λ g y n. absurd (none k g l y (n ∙ p .0 .number))) (λ g y. omega arith) (λ g x z. omega (arith, open-closed g x))))
-            (one .met k) (en .fair k) (tickedAt one k) (steady-ticked one other w may en k, omega (arith, open-aged (suc (linksAt one k .tick)) (linksAt one k .wire w), ih l)) .1
+          (λ i s f p. (
+            steady-meets one other w (one .start .tick + suc k) k (may k) i s f (p .0),
+            of-fair (λ x. openWhen x ≤ one .start .tick + q) other w k (may k) i s f (p .1) (λ g y n. absurd (none k g l y (n ∙ p .0 .number))) (λ g y. omega arith) (λ g x z. omega (arith, open-closed g x)),
+          ))
+          (one .met k) (en .fair k) (tickedAt one k) (steady-ticked one other w may en k, omega (arith, open-aged (suc (linksAt one k .tick)) (linksAt one k .wire w), ih l)) .1
 
   -- it isn't open 40 steps later
   pub shut-at : (k : ℕ) → q + 40 ≤ k → isOpenWire (linksAt one (suc k) .wire w) ≡ false
   unfolding linksAt
   shut-at k h = of-list (λ s. Steady one w (one .start .tick + suc k) s × (isOpenWire (s .wire w) ≡ false)) (Fair other w k (may k))
-      (λ i s f p. (steady-meets one other w (one .start .tick + suc k) k (may k) i s f (p .0),
-        of-fair (λ x. isOpenWire x ≡ false) other w k (may k) i s f (p .1) (λ g y n. absurd (none k g (omega arith) y (n ∙ p .0 .number))) (λ g y. refl) (λ g x z. shut-closed g x z)))
+      (λ i s f p. (
+        steady-meets one other w (one .start .tick + suc k) k (may k) i s f (p .0),
+        of-fair (λ x. isOpenWire x ≡ false) other w k (may k) i s f (p .1) (λ g y n. absurd (none k g (omega arith) y (n ∙ p .0 .number))) (λ g y. refl) (λ g x z. shut-closed g x z),
+      ))
       (one .met k) (en .fair k) (tickedAt one k)
       (steady-ticked one other w may en k, aged-shut (suc (linksAt one k .tick)) (linksAt one k .wire w) (omega (arith, opened-at k (omega arith), steady-at one other w may en k .tick))) .1
 
@@ -130,6 +136,7 @@ neither-open a e w v m ea ee (suc k) h =
   where
     none : (k : ℕ) (h : Hello) → m ≤ k → (k < m) × SentLately a w k h → ⊥
     none k h l p = omega (arith, p .0)
+
     mute : (k : ℕ) (h : Hello) → m + 42 ≤ k → SentLately e v k h → h .heard ≡ a .start .drawn → ⊥
     mute k h l p q =
         let s : tickedAt e (p .step) .wire v ≡ Silent = silent-ticked e a v m (λ k h. (k < m) × SentLately a w k h) ee none (p .step) (omega (arith, p .lately)) in

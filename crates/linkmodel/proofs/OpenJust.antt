@@ -55,28 +55,60 @@ open-was s k q (Passes ∷ is) w f d t e =
     let x = linksAfter s is in
     let p = aged-open (suc (x .tick)) (x .wire w) f d t e in
     let o = open-was s k q is w f d t (p .0) in
-    record { later = Passes ∷ o .later; before = o .before; hello = o .hello; split = ap (λ (l : List Input). Passes ∷ l) (o .split); was-taken = o .was-taken; names = o .names;
-      counts = omega (arith, o .counts); recent = omega (arith, o .counts, p .1); since = o .since; who = o .who; which = o .which }
+    record {
+      later = Passes ∷ o .later;
+      before = o .before;
+      hello = o .hello;
+      split = ap (λ (l : List Input). Passes ∷ l) (o .split);
+      was-taken = o .was-taken;
+      names = o .names;
+      counts = omega (arith, o .counts);
+      recent = omega (arith, o .counts, p .1);
+      since = o .since;
+      who = o .who;
+      which = o .which;
+    }
 open-was s k q (Hears v g ∷ is) w f d t e =
     go (accepts v g (linksAfter s is)) refl (λ z. open-was s k q is w f d t z)
   where
     more : OpenWas s is w f d t → (accepts v g (linksAfter s is) ≡ true → (w ≡ v → ⊥) × ((f ≡ g .from → ⊥) ⊎ (g .drawn ≡ d))) → hearsHello v g (linksAfter s is) .drawn ≡ linksAfter s is .drawn → hearsHello v g (linksAfter s is) .tick ≡ linksAfter s is .tick → OpenWas s (Hears v g ∷ is) w f d t
-    more o h dr ti = record { later = Hears v g ∷ o .later; before = o .before; hello = o .hello; split = ap (λ (l : List Input). Hears v g ∷ l) (o .split); was-taken = o .was-taken; names = o .names ∙ sym dr;
-      counts = o .counts ∙ sym ti; recent = o .recent;
+    more o h dr ti = record {
+      later = Hears v g ∷ o .later;
+      before = o .before;
+      hello = o .hello;
+      split = ap (λ (l : List Input). Hears v g ∷ l) (o .split);
+      was-taken = o .was-taken;
+      names = o .names ∙ sym dr;
+      counts = o .counts ∙ sym ti;
+      recent = o .recent;
       since = T-and (not (accepts v g (linksAfter s (o .later ++ (Hears w (o .hello) ∷ o .before)))) || (not (eqb v w) && (not (eqb (g .from) (o .hello .from)) || eqb (g .drawn) (o .hello .drawn))))
-        (undisturbed s w (o .hello) (o .later) (Hears w (o .hello) ∷ o .before))
-        (leaves (accepts v g (linksAfter s (o .later ++ (Hears w (o .hello) ∷ o .before)))) v w (o .hello .from) (g .from) (o .hello .drawn) (g .drawn)
+          (undisturbed s w (o .hello) (o .later) (Hears w (o .hello) ∷ o .before))
+          (leaves (accepts v g (linksAfter s (o .later ++ (Hears w (o .hello) ∷ o .before)))) v w (o .hello .from) (g .from) (o .hello .drawn) (g .drawn)
           (λ z. rw (o .who, o .which) (h (subst (λ (l : List Input). accepts v g (linksAfter s l) ≡ true) (sym (o .split)) z))))
-        (o .since);
-      who = o .who; which = o .which }
+          (o .since);
+      who = o .who;
+      which = o .which;
+    }
+
     go : (b : Bool) → accepts v g (linksAfter s is) ≡ b → (linksAfter s is .wire w ≡ Open f d t → OpenWas s is w f d t) → OpenWas s (Hears v g ∷ is) w f d t
     go true a ih =
         let c : hearsHello v g (linksAfter s is) ≡ greeted v g (linksAfter s is) = cond-true (accepts v g (linksAfter s is)) (greeted v g (linksAfter s is)) (linksAfter s is) a in
         opened (greeted-open v g (linksAfter s is) w f d t (sym (ap (λ (y : Links). y .wire w) c) ∙ e)) c
       where
         opened : OpenedBy v g (linksAfter s is) w f d t ⊎ OpenBefore v g (linksAfter s is) w f d t → hearsHello v g (linksAfter s is) ≡ greeted v g (linksAfter s is) → OpenWas s (Hears v g ∷ is) w f d t
-        opened (inl o) c = record { later = []; before = is; hello = g; split = ap (λ (y : ℕ). Hears y g ∷ is) (sym (o .here)); was-taken = rw (o .here) a; names = o .names ∙ sym (ap (λ (y : Links). y .drawn) c);
-          counts = omega (arith, o .when, ap (λ (y : Links). y .tick) c); recent = omega arith; since = tt; who = sym (o .who); which = sym (o .which) }
+        opened (inl o) c = record {
+          later = [];
+          before = is;
+          hello = g;
+          split = ap (λ (y : ℕ). Hears y g ∷ is) (sym (o .here));
+          was-taken = rw (o .here) a;
+          names = o .names ∙ sym (ap (λ (y : Links). y .drawn) c);
+          counts = omega (arith, o .when, ap (λ (y : Links). y .tick) c);
+          recent = omega arith;
+          since = tt;
+          who = sym (o .who);
+          which = sym (o .which);
+        }
         opened (inr o) c = more (ih (o .was)) (λ _. (o .away, agree (o .same))) (ap (λ (y : Links). y .drawn) c) (ap (λ (y : Links). y .tick) c)
           where
             agree : (linksAfter s is .last (g .from) ≡ g .drawn) ⊎ (f ≡ g .from → ⊥) → (f ≡ g .from → ⊥) ⊎ (g .drawn ≡ d)
@@ -92,8 +124,19 @@ open-was s k q (Rewires c ∷ is) w f d t e = go (eqb (c w) 0) refl (λ z. open-
     go false a ih =
         let o = ih (sym (cond-false (eqb (c w) 0) Silent (linksAfter s is .wire w) a) ∙ e) in
         let pos : 0 < c w = omega (arith, eqb-false (c w) 0 a) in
-        record { later = Rewires c ∷ o .later; before = o .before; hello = o .hello; split = ap (λ (l : List Input). Rewires c ∷ l) (o .split); was-taken = o .was-taken; names = o .names;
-          counts = o .counts; recent = o .recent; since = T-and (ltb 0 (c w)) (undisturbed s w (o .hello) (o .later) (Hears w (o .hello) ∷ o .before)) (is-T (ltb 0 (c w)) (lt-ltb 0 (c w) pos)) (o .since); who = o .who; which = o .which }
+        record {
+          later = Rewires c ∷ o .later;
+          before = o .before;
+          hello = o .hello;
+          split = ap (λ (l : List Input). Rewires c ∷ l) (o .split);
+          was-taken = o .was-taken;
+          names = o .names;
+          counts = o .counts;
+          recent = o .recent;
+          since = T-and (ltb 0 (c w)) (undisturbed s w (o .hello) (o .later) (Hears w (o .hello) ∷ o .before)) (is-T (ltb 0 (c w)) (lt-ltb 0 (c w) pos)) (o .since);
+          who = o .who;
+          which = o .which;
+        }
 open-was s k q (Fell c ∷ is) w f d t e = shut-wire f d t e
 
 -- what a hello that leaves an open wire open is
@@ -103,6 +146,7 @@ left-open true v w f g d c e h = (apart v w f g d c (T-is (not (eqb v w) && (not
   where
     apart : (v w f g d c : ℕ) → (not (eqb v w) && (not (eqb g f) || eqb c d)) ≡ true → w ≡ v → ⊥
     apart v w f g d c h q = grind (arith, tells)
+
     level : (v w f g d c : ℕ) → (not (eqb v w) && (not (eqb g f) || eqb c d)) ≡ true → f ≡ g → c ≡ d
     level v w f g d c h q = grind (arith, tells)
 
@@ -125,15 +169,15 @@ pub greeted-there : (v : ℕ) (g : Hello) (s : Links) (w f d t : ℕ) → s .wir
 greeted-there v g s w f d t e l a b =
     row-off v w (cond (eqb (g .heard) (s .drawn)) (Open (g .from) (g .drawn) (s .tick)) (Heard (g .from) (g .drawn) (s .tick))) (λ x. cond (eqb (s .last (g .from)) (g .drawn)) (s .wire x) (closedTo (g .from) (s .wire x))) a
     ∙ of-cond (λ (y : Wire). y ≡ Open f d t) (eqb (s .last (g .from)) (g .drawn)) (s .wire w) (closedTo (g .from) (s .wire w)) (λ _. e)
-        (λ j. ap (closedTo (g .from)) e ∙ of-cond (λ (y : Wire). y ≡ Open f d t) (eqb f (g .from)) (Heard f d t) (Open f d t)
-          (λ i. let q : f ≡ g .from = eqb-true f (g .from) i in absurd (eqb-false (s .last (g .from)) (g .drawn) j (ap (s .last) (sym q) ∙ (l ∙ sym (b q))))) (λ _. refl))
+    (λ j. ap (closedTo (g .from)) e ∙ of-cond (λ (y : Wire). y ≡ Open f d t) (eqb f (g .from)) (Heard f d t) (Open f d t)
+    (λ i. let q : f ≡ g .from = eqb-true f (g .from) i in absurd (eqb-false (s .last (g .from)) (g .drawn) j (ap (s .last) (sym q) ∙ (l ∙ sym (b q))))) (λ _. refl))
 
 -- an open wire that isn't too old stays open at a tick
 pub aged-young : (now f d t : ℕ) → now ≤ t + holdsFor → aged now (Open f d t) ≡ Open f d t
 aged-young now f d t h = cond-false (ltb (t + holdsFor) now) Silent (Open f d t) (le-ltb (t + holdsFor) now h)
 
 pub fits-open : (s : Links) → Sound s → (later before : List Input) (w : ℕ) (h : Hello) → accepts w h (linksAfter s before) ≡ true → h .heard ≡ linksAfter s (later ++ (Hears w h ∷ before)) .drawn → ticksIn later ≤ holdsFor → T (undisturbed s w h later (Hears w h ∷ before)) →
-  (linksAfter s (later ++ (Hears w h ∷ before)) .wire w ≡ Open (h .from) (h .drawn) (linksAfter s before .tick)) × (linksAfter s before .tick + ticksIn later ≡ linksAfter s (later ++ (Hears w h ∷ before)) .tick)
+    (linksAfter s (later ++ (Hears w h ∷ before)) .wire w ≡ Open (h .from) (h .drawn) (linksAfter s before .tick)) × (linksAfter s before .tick + ticksIn later ≡ linksAfter s (later ++ (Hears w h ∷ before)) .tick)
 unfolding linksAfter ticksIn undisturbed
 fits-open s k [] before w h a m r u =
     let x = linksAfter s before in
@@ -147,9 +191,10 @@ fits-open s k (Hears v g ∷ later) before w h a m r u = go (accepts v g x) refl
   where
     x : Links
     x = linksAfter s (later ++ (Hears w h ∷ before))
+
     go : (b : Bool) → accepts v g (linksAfter s (later ++ (Hears w h ∷ before))) ≡ b →
-      (h .heard ≡ linksAfter s (later ++ (Hears w h ∷ before)) .drawn → (linksAfter s (later ++ (Hears w h ∷ before)) .wire w ≡ Open (h .from) (h .drawn) (linksAfter s before .tick)) × (linksAfter s before .tick + ticksIn later ≡ linksAfter s (later ++ (Hears w h ∷ before)) .tick)) →
-      (hearsHello v g (linksAfter s (later ++ (Hears w h ∷ before))) .wire w ≡ Open (h .from) (h .drawn) (linksAfter s before .tick)) × (linksAfter s before .tick + ticksIn later ≡ hearsHello v g (linksAfter s (later ++ (Hears w h ∷ before))) .tick)
+        (h .heard ≡ linksAfter s (later ++ (Hears w h ∷ before)) .drawn → (linksAfter s (later ++ (Hears w h ∷ before)) .wire w ≡ Open (h .from) (h .drawn) (linksAfter s before .tick)) × (linksAfter s before .tick + ticksIn later ≡ linksAfter s (later ++ (Hears w h ∷ before)) .tick)) →
+        (hearsHello v g (linksAfter s (later ++ (Hears w h ∷ before))) .wire w ≡ Open (h .from) (h .drawn) (linksAfter s before .tick)) × (linksAfter s before .tick + ticksIn later ≡ hearsHello v g (linksAfter s (later ++ (Hears w h ∷ before))) .tick)
     go true b ih =
         let y : Links = linksAfter s (later ++ (Hears w h ∷ before)) in
         let c : hearsHello v g y ≡ greeted v g y = cond-true (accepts v g y) (greeted v g y) y b in
@@ -183,6 +228,7 @@ open-just-when n me d is w = (there, back)
         let p = is-open (linksAfter (fresh n me d) is .wire w) e in
         let o = open-was (fresh n me d) (sound-fresh n me d) (λ v. refl) is w (p .0) (p .1) (p .2) (p .3) in
         record { later = o .later; before = o .before; hello = o .hello; split = o .split; accepted = o .was-taken; names = o .names; recent = o .recent; since = o .since }
+
     back : Fits (fresh n me d) w is → isOpenWire (linksAfter (fresh n me d) is .wire w) ≡ true
     back o = subst (λ (l : List Input). isOpenWire (linksAfter (fresh n me d) l .wire w) ≡ true) (sym (o .split))
         (ap isOpenWire (fits-open (fresh n me d) (sound-fresh n me d) (o .later) (o .before) w (o .hello) (o .accepted) (subst (λ (l : List Input). o .hello .heard ≡ linksAfter (fresh n me d) l .drawn) (o .split) (o .names)) (o .recent) (o .since) .0))

@@ -32,14 +32,14 @@ unfolding seensFor
 seens-old [] b = tt
 seens-old (x ∷ xs) b =
     of-cond (Every (OldSight (b .word))) (sameWord (x .entry) (b .word (x .about))) (record { about = x .about; number = x .entry .number; tag = x .entry .tag } ∷ seensFor xs b) (seensFor xs b)
-      (λ e. (after-level (x .entry .number) (x .entry .tag) (b .word (x .about) .number) (b .word (x .about) .tag) e, seens-old xs b)) (λ _. seens-old xs b)
+    (λ e. (after-level (x .entry .number) (x .entry .tag) (b .word (x .about) .number) (b .word (x .about) .tag) e, seens-old xs b)) (λ _. seens-old xs b)
 
 news-old : (xs : List Item) (b : Box) → Every (OldItem (b .word)) (newsFor xs b)
 unfolding newsFor
 news-old [] b = tt
 news-old (x ∷ xs) b =
     of-cond (Every (OldItem (b .word))) (newer (b .word (x .about)) (x .entry)) (record { about = x .about; entry = b .word (x .about) } ∷ newsFor xs b) (newsFor xs b)
-      (λ _. (newer-self (b .word (x .about)), news-old xs b)) (λ _. news-old xs b)
+    (λ _. (newer-self (b .word (x .about)), news-old xs b)) (λ _. news-old xs b)
 
 items-old : (is : List ℕ) (b : Box) → Every (OldItem (b .word)) (itemsOf is b)
 unfolding itemsOf
@@ -58,7 +58,7 @@ words-out s e (x ∷ xs) h = ((refl, h), tt)
 pub answers-out : (e : ℕ) (p : Bundle) (s : Station) → Sendables s (answers e p s)
 answers-out e p s =
     every-append (λ (o : Out). Sendable s (o .frame)) (seensOut e (seensFor (p .items) (s .box)) (s .links)) (wordsOut e (newsFor (p .items) (s .box)) (s .links))
-      (seens-out s e (seensFor (p .items) (s .box)) (seens-old (p .items) (s .box))) (words-out s e (newsFor (p .items) (s .box)) (news-old (p .items) (s .box)))
+    (seens-out s e (seensFor (p .items) (s .box)) (seens-old (p .items) (s .box))) (words-out s e (newsFor (p .items) (s .box)) (news-old (p .items) (s .box)))
 
 -- what goes out at a tick
 hellos-out : (s : Station) (k : ℕ) → Sendables s (hellosOn (s .links) k)
@@ -66,17 +66,17 @@ unfolding hellosOn
 hellos-out s zero = tt
 hellos-out s (suc k) =
     every-append (λ (o : Out). Sendable s (o .frame)) (hellosOn (s .links) k) (cond (sendsHello k (s .links)) (record { on = k; frame = Greets (helloFor k (s .links)) } ∷ []) []) (hellos-out s k)
-      (of-cond (Sendables s) (sendsHello k (s .links)) (record { on = k; frame = Greets (helloFor k (s .links)) } ∷ []) [] (λ _. ((refl, refl), tt)) (λ _. tt))
+    (of-cond (Sendables s) (sendsHello k (s .links)) (record { on = k; frame = Greets (helloFor k (s .links)) } ∷ []) [] (λ _. ((refl, refl), tt)) (λ _. tt))
 
 tells-out : (s : Station) (k : ℕ) → Sendables s (tellsOn s k)
 unfolding tellsOn
 tells-out s zero = tt
 tells-out s (suc k) =
     every-append (λ (o : Out). Sendable s (o .frame)) (tellsOn s k) (cond (ltb 0 (roadCost k (s .links))) (wordsOut k (itemsOf (tells k (s .box)) (s .box)) (s .links)) []) (tells-out s k)
-      (of-cond (Sendables s) (ltb 0 (roadCost k (s .links))) (wordsOut k (itemsOf (tells k (s .box)) (s .box)) (s .links)) []
-        (λ _. words-out s k (itemsOf (tells k (s .box)) (s .box)) (items-old (tells k (s .box)) (s .box))) (λ _. tt))
+    (of-cond (Sendables s) (ltb 0 (roadCost k (s .links))) (wordsOut k (itemsOf (tells k (s .box)) (s .box)) (s .links)) []
+    (λ _. words-out s k (itemsOf (tells k (s .box)) (s .box)) (items-old (tells k (s .box)) (s .box))) (λ _. tt))
 
 pub ticks-out : (s : Station) → Sendables s (tickOut s)
 ticks-out s =
     every-append (λ (o : Out). Sendable s (o .frame)) (hellosOn (s .links) wires) (cond (eqb (s .links .tick % tellsEvery) 0) (tellsOn s (s .links .n)) []) (hellos-out s wires)
-      (of-cond (Sendables s) (eqb (s .links .tick % tellsEvery) 0) (tellsOn s (s .links .n)) [] (λ _. tells-out s (s .links .n)) (λ _. tt))
+    (of-cond (Sendables s) (eqb (s .links .tick % tellsEvery) 0) (tellsOn s (s .links .n)) [] (λ _. tells-out s (s .links .n)) (λ _. tt))

@@ -47,7 +47,7 @@ sound-arrives n zero cables ts [] x k = k
 sound-arrives n (suc i) cables ts [] x k = k
 sound-arrives n zero cables ts (f ∷ fs) x k =
     of-cond AllSound (ltb (cables .to (f .by) (f .on)) n) (meets (cables .to (f .by) (f .on)) (cables .end (f .by) (f .on)) (f .frame) ts x) x
-      (λ _. sound-met x (cables .to (f .by) (f .on)) (cables .end (f .by) (f .on)) (f .frame) ts k) (λ _. k)
+    (λ _. sound-met x (cables .to (f .by) (f .on)) (cables .end (f .by) (f .on)) (f .frame) ts k) (λ _. k)
 sound-arrives n (suc i) cables ts (f ∷ fs) x k = sound-arrives n i cables ts fs x k
 
 sound-moves : (n : ℕ) (cables : Cables) (m : Move) (x : Air) → AllSound x → AllSound (move n cables m x)
@@ -70,7 +70,7 @@ unfolding hellosOn
 hellos-only s zero = tt
 hellos-only s (suc k) =
     every-append (λ (o : Out). isHello (o .frame) ≡ true) (hellosOn s k) (cond (sendsHello k s) (record { on = k; frame = Greets (helloFor k s) } ∷ []) []) (hellos-only s k)
-      (of-cond (Every (λ (o : Out). isHello (o .frame) ≡ true)) (sendsHello k s) (record { on = k; frame = Greets (helloFor k s) } ∷ []) [] (λ _. (refl, tt)) (λ _. tt))
+    (of-cond (Every (λ (o : Out). isHello (o .frame) ≡ true)) (sendsHello k s) (record { on = k; frame = Greets (helloFor k s) } ∷ []) [] (λ _. (refl, tt)) (λ _. tt))
 
 sent-more : (fs gs : List Sent) → allHellos fs ≡ true → allHellos gs ≡ true → allHellos (fs ++ gs) ≡ true
 unfolding allHellos
@@ -90,10 +90,12 @@ pub quiet-net : QuietNet
 unfolding air allHellos
 quiet-net n cables first ms a t q m =
     of-cond (λ (y : Air). (news : List Sent) × (y .sent ≡ news ++ x .sent) × (allHellos news ≡ true)) (ltb a n && not (isIn t (x .tags))) (becomes a (ticks t (x .at a)) (tickOut (ticks t (x .at a))) (t ∷ []) x) x
-      (λ _. (sentBy a (hellosOn (passes (x .at a .links)) wires),
-        ap (λ (l : List Out). sentBy a l ++ x .sent) (quiet-tick (x .at a) t (sound-air n cables first ms a) q m),
-        sent-hellos a (hellosOn (passes (x .at a .links)) wires) (hellos-only (passes (x .at a .links)) wires)))
-      (λ _. ([], refl, refl))
+    (λ _. (
+      sentBy a (hellosOn (passes (x .at a .links)) wires),
+      ap (λ (l : List Out). sentBy a l ++ x .sent) (quiet-tick (x .at a) t (sound-air n cables first ms a) q m),
+      sent-hellos a (hellosOn (passes (x .at a .links)) wires) (hellos-only (passes (x .at a .links)) wires),
+    ))
+    (λ _. ([], refl, refl))
   where
     x : Air
     x = air n cables first ms

@@ -47,8 +47,8 @@ tells-none s (suc k) h q = rw (tells-none s k (omega arith) q) (of-cond (λ (l :
 pub only-hellos : OnlyHellos
 only-hellos s q =
     of-cond (λ (l : List Out). hellosOn (s .links) wires ++ l ≡ hellosOn (s .links) wires) (eqb (s .links .tick % tellsEvery) 0) (tellsOn s (s .links .n)) []
-      (λ _. ap (λ (l : List Out). hellosOn (s .links) wires ++ l) (tells-none s (s .links .n) (omega arith) q) ∙ append-nil (hellosOn (s .links) wires))
-      (λ _. append-nil (hellosOn (s .links) wires))
+    (λ _. ap (λ (l : List Out). hellosOn (s .links) wires ++ l) (tells-none s (s .links .n) (omega arith) q) ∙ append-nil (hellosOn (s .links) wires))
+    (λ _. append-nil (hellosOn (s .links) wires))
 
 -- a wire that is open after ageing was open
 aged-opens : (now e : ℕ) (x : Wire) → opensTo e (aged now x) ≡ true → opensTo e x ≡ true
@@ -74,13 +74,13 @@ aged-road s d e w (suc k) h = go (opensTo e (s .wire w)) refl (λ z. aged-road s
     go true z ih = subst (λ (y : ℕ). 0 < y) (sym (cond-true (opensTo e (s .wire w)) (s .cost w) (lowestTo e s (w + 1) k) z)) (open-costs s d e w z)
     go false z ih = subst (λ (y : ℕ). 0 < y) (sym (cond-false (opensTo e (s .wire w)) (s .cost w) (lowestTo e s (w + 1) k) z))
         (ih (of-cond (λ (y : ℕ). 0 < y → 0 < lowestTo e (passes s) (w + 1) k) (opensTo e (passes s .wire w)) (s .cost w) (lowestTo e (passes s) (w + 1) k)
-          (λ j _. true-not-false (opensTo e (s .wire w)) (aged-opens (suc (s .tick)) e (s .wire w) j) z) (λ _ y. y) h))
+        (λ j _. true-not-false (opensTo e (s .wire w)) (aged-opens (suc (s .tick)) e (s .wire w) j) z) (λ _ y. y) h))
 
 pub quiet-tick : QuietTick
 quiet-tick s t d q m =
     subst (λ (b : Box). tickOut (record { links = passes (s .links); box = b }) ≡ hellosOn (passes (s .links)) wires)
-      (sym (cond-false (mustSay (expired s) && canSay (expired s .word (expired s .me) .number)) (saysNow t (expired s)) (expired s) (and-first (mustSay (expired s)) (canSay (expired s .word (expired s .me) .number)) m)))
-      (only-hellos (record { links = passes (s .links); box = expired s }) still)
+    (sym (cond-false (mustSay (expired s) && canSay (expired s .word (expired s .me) .number)) (saysNow t (expired s)) (expired s) (and-first (mustSay (expired s)) (canSay (expired s .word (expired s .me) .number)) m)))
+    (only-hellos (record { links = passes (s .links); box = expired s }) still)
   where
     still : Settled (record { links = passes (s .links); box = expired s })
     still e en p i il n = let was : 0 < roadCost e (s .links) = aged-road (s .links) d e 0 wires p in relinked-kept (s .links) (passes (s .links)) (s .box) e i (q e en was i il n) was p refl

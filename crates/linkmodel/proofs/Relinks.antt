@@ -47,6 +47,7 @@ road-open s e w k h q = lowest 0 wires (omega arith) (omega arith)
         go : (b : Bool) → eqb (s .cost v) 0 ≡ b → 0 < s .cost v
         go true i = let y : opensTo e (s .wire v) ≡ false = ap (opensTo e) (k .silent v (eqb-true (s .cost v) 0 i)) in let c : _≡_ {A = ℕ} 0 1 = cc in absurd (omega arith)
         go false i = omega (arith, eqb-false (s .cost v) 0 i)
+
     lowest : (v j : ℕ) → v ≤ w → w < v + j → 0 < lowestTo e s v j
     lowest v zero a b = absurd (omega arith)
     lowest v (suc j) a b = of-cond (λ (x : ℕ). 0 < x) (opensTo e (s .wire v)) (s .cost v) (lowestTo e s (v + 1) j) (costs v)
@@ -66,13 +67,14 @@ road-step : (a e c : ℕ) (w : World) → a < w .n → e < w .n → (a ≡ e →
 road-step a e c w ha he ne =
     let ok : (ltb a (w .n) && (ltb e (w .n) && not (eqb a e))) ≡ true = rw (lt-ltb a (w .n) ha, lt-ltb e (w .n) he, ne-eqb a e ne) in
     subst (RoadNow a e c w) (sym (cond-true (ltb a (w .n) && (ltb e (w .n) && not (eqb a e))) (record { n = w .n; real = at2 a e c (w .real); knows = w .knows; flight = w .flight; drawn = w .drawn }) w ok))
-      (record { boxes = refl; real = λ x. ap (λ (b : Bool). cond (b && eqb x e) c (w .real a x)) (eq-eqb a a refl); knows = λ i. refl })
+    (record { boxes = refl; real = λ x. ap (λ (b : Bool). cond (b && eqb x e) c (w .real a x)) (eq-eqb a a refl); knows = λ i. refl })
 
 road-twice : (a e b c : ℕ) (w v u : World) → RoadNow a e b w v → RoadNow a e c v u → RoadNow a e c w u
-road-twice a e b c w v u p q = record
-  { boxes = q .boxes ∙ p .boxes
-  ; real = λ x. q .real x ∙ go x (eqb x e) refl
-  ; knows = λ i. q .knows i ∙ p .knows i }
+road-twice a e b c w v u p q = record {
+  boxes = q .boxes ∙ p .boxes;
+  real = λ x. q .real x ∙ go x (eqb x e) refl;
+  knows = λ i. q .knows i ∙ p .knows i;
+}
   where
     go : (x : ℕ) (t : Bool) → eqb x e ≡ t → cond (eqb x e) c (v .real a x) ≡ cond (eqb x e) c (w .real a x)
     go x true i = rw i refl
@@ -86,14 +88,14 @@ road-leads : (before after : Links) (n a e : ℕ) (es : List Ev) → after .me �
 unfolding world
 road-leads before after n a e es me wn ha he ne h =
     subst (λ (m : ℕ). RoadNow a e (roadCost e after) (world n es) (world n (cond (isAnew before after e && (ltb 0 (roadCost e before) && ltb 0 (roadCost e after))) (Road m e (roadCost e after) ∷ Road m e 0 ∷ [])
-        (cond (eqb (roadCost e before) (roadCost e after)) [] (Road m e (roadCost e after) ∷ [])) ++ es))) (sym me)
-      (of-cond (λ (l : List Ev). RoadNow a e (roadCost e after) (world n es) (world n (l ++ es))) (isAnew before after e && (ltb 0 (roadCost e before) && ltb 0 (roadCost e after)))
-        (Road a e (roadCost e after) ∷ Road a e 0 ∷ []) (cond (eqb (roadCost e before) (roadCost e after)) [] (Road a e (roadCost e after) ∷ []))
-        (λ _. road-twice a e 0 (roadCost e after) (world n es) (step (Road a e 0) (world n es)) (step (Road a e (roadCost e after)) (step (Road a e 0) (world n es))) one
-          (road-step a e (roadCost e after) (step (Road a e 0) (world n es)) (rw (one .boxes, wn) ha) (rw (one .boxes, wn) he) ne))
-        (λ _. of-cond (λ (l : List Ev). RoadNow a e (roadCost e after) (world n es) (world n (l ++ es))) (eqb (roadCost e before) (roadCost e after)) [] (Road a e (roadCost e after) ∷ [])
-          (λ i. road-same a e (roadCost e after) (world n es) (h ∙ eqb-true (roadCost e before) (roadCost e after) i))
-          (λ _. road-step a e (roadCost e after) (world n es) (rw wn ha) (rw wn he) ne)))
+    (cond (eqb (roadCost e before) (roadCost e after)) [] (Road m e (roadCost e after) ∷ [])) ++ es))) (sym me)
+    (of-cond (λ (l : List Ev). RoadNow a e (roadCost e after) (world n es) (world n (l ++ es))) (isAnew before after e && (ltb 0 (roadCost e before) && ltb 0 (roadCost e after)))
+    (Road a e (roadCost e after) ∷ Road a e 0 ∷ []) (cond (eqb (roadCost e before) (roadCost e after)) [] (Road a e (roadCost e after) ∷ []))
+    (λ _. road-twice a e 0 (roadCost e after) (world n es) (step (Road a e 0) (world n es)) (step (Road a e (roadCost e after)) (step (Road a e 0) (world n es))) one
+    (road-step a e (roadCost e after) (step (Road a e 0) (world n es)) (rw (one .boxes, wn) ha) (rw (one .boxes, wn) he) ne))
+    (λ _. of-cond (λ (l : List Ev). RoadNow a e (roadCost e after) (world n es) (world n (l ++ es))) (eqb (roadCost e before) (roadCost e after)) [] (Road a e (roadCost e after) ∷ [])
+    (λ i. road-same a e (roadCost e after) (world n es) (h ∙ eqb-true (roadCost e before) (roadCost e after) i))
+    (λ _. road-step a e (roadCost e after) (world n es) (rw wn ha) (rw wn he) ne)))
   where
     one : RoadNow a e 0 (world n es) (step (Road a e 0) (world n es))
     one = road-step a e 0 (world n es) (rw wn ha) (rw wn he) ne
@@ -120,7 +122,6 @@ no-events before after e p q = rw (p, q) (cond-false (isAnew before after e && f
 
 module _ (before after : Links) (b : Box) (es : List Ev) (kb : Sound before) (ka : Sound after) (nb : before .n ≡ b .n) (mb : before .me ≡ b .me) (na : after .n ≡ b .n) (ma : after .me ≡ b .me)
     (cost : (e : ℕ) → b .cost e ≡ roadCost e before) (st : Stands b es) (wn : world (b .n) es .n ≡ b .n) where
-
   roads-to : (k : ℕ) → k ≤ b .n → RoadsTo before after (b .n) (b .me) k (world (b .n) es) (world (b .n) (relinks before after k ++ es))
   unfolding relinks
   roads-to zero h = record { boxes = wn; real = λ x. st .real x ∙ (cost x ∙ sym (cond-false (ltb x 0) (roadCost x after) (roadCost x before) (le-ltb x 0 (omega arith)))); knows = λ i. refl }
@@ -133,13 +134,14 @@ module _ (before after : Links) (b : Box) (es : List Ev) (kb : Sound before) (ka
           let p : roadCost k before ≡ 0 = subst (λ (x : ℕ). roadCost x before ≡ 0) (mb ∙ mk) (road-self before kb) in
           let q : roadCost k after ≡ 0 = subst (λ (x : ℕ). roadCost x after ≡ 0) (ma ∙ mk) (road-self after ka) in
           subst (λ (l : List Ev). RoadsTo before after (b .n) (b .me) (suc k) (world (b .n) es) (world (b .n) (l ++ (relinks before after k ++ es)))) (sym (no-events before after k p q))
-            (record { boxes = ih .boxes; real = λ x. ih .real x ∙ next-self x k (roadCost x after) (roadCost x before) (λ y. rw y (q ∙ sym p)); knows = ih .knows })
+          (record { boxes = ih .boxes; real = λ x. ih .real x ∙ next-self x k (roadCost x after) (roadCost x before) (λ y. rw y (q ∙ sym p)); knows = ih .knows })
       go false i ih =
           let r = road-leads before after (b .n) (b .me) k (relinks before after k ++ es) ma (ih .boxes) (st .is-one) h (eqb-false (b .me) k i) (ih .real k ∙ cond-false (ltb k k) (roadCost k after) (roadCost k before) (le-ltb k k (omega arith))) in
-          record
-            { boxes = r .boxes ∙ ih .boxes
-            ; real = λ x. r .real x ∙ (ap (λ (y : ℕ). cond (eqb x k) (roadCost k after) y) (ih .real x) ∙ (same x ∙ next-road x k (roadCost x after) (roadCost x before)))
-            ; knows = λ j. r .knows j ∙ ih .knows j }
+          record {
+            boxes = r .boxes ∙ ih .boxes;
+            real = λ x. r .real x ∙ (ap (λ (y : ℕ). cond (eqb x k) (roadCost k after) y) (ih .real x) ∙ (same x ∙ next-road x k (roadCost x after) (roadCost x before)));
+            knows = λ j. r .knows j ∙ ih .knows j;
+          }
         where
           same : (x : ℕ) → cond (eqb x k) (roadCost k after) (cond (ltb x k) (roadCost x after) (roadCost x before)) ≡ cond (eqb x k) (roadCost x after) (cond (ltb x k) (roadCost x after) (roadCost x before))
           same x = by (eqb x k) refl
@@ -152,11 +154,12 @@ pub relink-so : RelinkSo
 relink-so before after b es kb ka nb mb na ma cost st =
     let wn : world (b .n) es .n ≡ b .n = world-n (b .n) es in
     let r = roads-to before after b es kb ka nb mb na ma cost st wn (b .n) (omega arith) in
-    record
-      { is-one = st .is-one
-      ; real = λ e. r .real e ∙ of-cond (λ (y : ℕ). y ≡ roadCost e after) (ltb e (b .n)) (roadCost e after) (roadCost e before) (λ _. refl)
-          (λ i. let h : b .n ≤ e = ltb-false e (b .n) i in road-beyond before e kb (omega arith) ∙ sym (road-beyond after e ka (omega arith)))
-      ; knows = λ i. r .knows i ∙ st .knows i }
+    record {
+      is-one = st .is-one;
+      real = λ e. r .real e ∙ of-cond (λ (y : ℕ). y ≡ roadCost e after) (ltb e (b .n)) (roadCost e after) (roadCost e before) (λ _. refl)
+          (λ i. let h : b .n ≤ e = ltb-false e (b .n) i in road-beyond before e kb (omega arith) ∙ sym (road-beyond after e ka (omega arith)));
+      knows = λ i. r .knows i ∙ st .knows i;
+    }
 
 -- the events of one input lead a box that stands, with the roads of its links, where its links then say
 pub relink-input : (s : Links) (i : Input) (b : Box) (es : List Ev) → Sound s → s .n ≡ b .n → s .me ≡ b .me → ((e : ℕ) → b .cost e ≡ roadCost e s) → Stands b es → Stands (relinked s (meets i s) b) (relinks s (meets i s) (b .n) ++ es)

@@ -38,14 +38,14 @@ of-list I F h (i ∷ is) f s k = h i (linksAfter s is) (f i (inl refl)) (of-list
 
 -- a property of the joined wire after a fair input
 pub of-fair : (Q : Wire → Type 0) (other : Run) (w k : ℕ) (may : Hello → Type 0) (i : Input) (s : Links) → Fair other w k may i → Q (s .wire w) →
-  ((h : Hello) → may h → h .heard ≡ s .drawn → Q (Open (h .from) (h .drawn) (s .tick))) → ((h : Hello) → may h → Q (Heard (h .from) (h .drawn) (s .tick))) → ((f : ℕ) (x : Wire) → Q x → Q (closedTo f x)) → Q (meets i s .wire w)
+    ((h : Hello) → may h → h .heard ≡ s .drawn → Q (Open (h .from) (h .drawn) (s .tick))) → ((h : Hello) → may h → Q (Heard (h .from) (h .drawn) (s .tick))) → ((f : ℕ) (x : Wire) → Q x → Q (closedTo f x)) → Q (meets i s .wire w)
 of-fair Q other w k may Passes s f q o h c = absurd f
 of-fair Q other w k may (Hears u g) s f q o h c =
     of-cond (λ (y : Links). Q (y .wire w)) (accepts u g s) (greeted u g s) s
-      (λ _. of-cond Q (eqb w u) (cond (eqb (g .heard) (s .drawn)) (Open (g .from) (g .drawn) (s .tick)) (Heard (g .from) (g .drawn) (s .tick))) (cond (eqb (s .last (g .from)) (g .drawn)) (s .wire w) (closedTo (g .from) (s .wire w)))
-        (λ e. let m : may g = f .0 (sym (eqb-true w u e)) in of-cond Q (eqb (g .heard) (s .drawn)) (Open (g .from) (g .drawn) (s .tick)) (Heard (g .from) (g .drawn) (s .tick)) (λ j. o g m (eqb-true (g .heard) (s .drawn) j)) (λ _. h g m))
-        (λ _. of-cond Q (eqb (s .last (g .from)) (g .drawn)) (s .wire w) (closedTo (g .from) (s .wire w)) (λ _. q) (λ _. c (g .from) (s .wire w) q)))
-      (λ _. q)
+    (λ _. of-cond Q (eqb w u) (cond (eqb (g .heard) (s .drawn)) (Open (g .from) (g .drawn) (s .tick)) (Heard (g .from) (g .drawn) (s .tick))) (cond (eqb (s .last (g .from)) (g .drawn)) (s .wire w) (closedTo (g .from) (s .wire w)))
+    (λ e. let m : may g = f .0 (sym (eqb-true w u e)) in of-cond Q (eqb (g .heard) (s .drawn)) (Open (g .from) (g .drawn) (s .tick)) (Heard (g .from) (g .drawn) (s .tick)) (λ j. o g m (eqb-true (g .heard) (s .drawn) j)) (λ _. h g m))
+    (λ _. of-cond Q (eqb (s .last (g .from)) (g .drawn)) (s .wire w) (closedTo (g .from) (s .wire w)) (λ _. q) (λ _. c (g .from) (s .wire w) q)))
+    (λ _. q)
 of-fair Q other w k may (Rewires c) s f q o h cl = of-cond Q (eqb (c w) 0) Silent (s .wire w) (λ j. let z : c w ≡ 0 = eqb-true (c w) 0 j in absurd (omega arith)) (λ _. q)
 of-fair Q other w k may (Fell d) s f q o h c = absurd f
 

@@ -27,19 +27,19 @@ sent-none b es st = record { stands = st; flight = refl }
 
 -- first these, and then those
 sent-then : (b : Box) (es fs gs : List Ev) (vs ws : List Word) → Sent b es fs vs → Sent b (fs ++ es) gs ws → Sent b es (gs ++ fs) (ws ++ vs)
-sent-then b es fs gs vs ws p q = record
-  { stands = subst (Stands b) (sym (append-assoc gs fs es)) (q .stands)
-  ; flight = ap (λ (l : List Ev). world (b .n) l .flight) (append-assoc gs fs es) ∙ (q .flight ∙ (ap (λ (l : List Word). ws ++ l) (p .flight) ∙ sym (append-assoc ws vs (world (b .n) es .flight))))
-  }
+sent-then b es fs gs vs ws p q = record {
+  stands = subst (Stands b) (sym (append-assoc gs fs es)) (q .stands);
+  flight = ap (λ (l : List Ev). world (b .n) l .flight) (append-assoc gs fs es) ∙ (q .flight ∙ (ap (λ (l : List Word). ws ++ l) (p .flight) ∙ sym (append-assoc ws vs (world (b .n) es .flight))));
+}
 
 sent-one : (b : Box) (es : List Ev) (e i : ℕ) → e < b .n → i < b .n → 0 < b .cost e → Stands b es → Sent b es (Sends (b .me) e i ∷ []) (wordFor e i b ∷ [])
 unfolding world
 sent-one b es e i le li o st =
     let k : Like (b .n) (b .me) (world (b .n) es) b = like-of (b .n) (b .me) b es (refl, refl, st) in
-    record
-      { stands = stands-of (b .n) (b .me) b (Sends (b .me) e i ∷ es) (st .is-one) (one-more (b .n) (b .me) es (Sends (b .me) e i) b (like-sends (b .n) (b .me) (st .is-one) (world (b .n) es) (world-n (b .n) es) b (b .me) e i k)) .2
-      ; flight = sent-on (b .n) (b .me) (world (b .n) es) b e i (world-n (b .n) es) (st .is-one) le li k (subst (λ (c : ℕ). 0 < c) (sym (st .real e)) o)
-      }
+    record {
+      stands = stands-of (b .n) (b .me) b (Sends (b .me) e i ∷ es) (st .is-one) (one-more (b .n) (b .me) es (Sends (b .me) e i) b (like-sends (b .n) (b .me) (st .is-one) (world (b .n) es) (world-n (b .n) es) b (b .me) e i k)) .2;
+      flight = sent-on (b .n) (b .me) (world (b .n) es) b e i (world-n (b .n) es) (st .is-one) le li k (subst (λ (c : ℕ). 0 < c) (sym (st .real e)) o);
+    }
 
 -- the words to one neighbour
 sent-to : (b : Box) (es : List Ev) (e : ℕ) (is : List ℕ) → e < b .n → T (allUnder (b .n) is) → 0 < b .cost e → Stands b es → Sent b es (sendings (b .me) e is) (wordsTo b e is)
@@ -48,7 +48,7 @@ sent-to b es e [] le u o st = sent-none b es st
 sent-to b es e (i ∷ is) le u o st =
     let p = sent-one b es e i le (ltb-true i (b .n) (t-true (ltb i (b .n)) (left-t (ltb i (b .n)) (allUnder (b .n) is) u))) o st in
     sent-then b es (Sends (b .me) e i ∷ []) (sendings (b .me) e is) (wordFor e i b ∷ []) (wordsTo b e is) p
-      (sent-to b (Sends (b .me) e i ∷ es) e is le (right-t (ltb i (b .n)) (allUnder (b .n) is) u) o (p .stands))
+    (sent-to b (Sends (b .me) e i ∷ es) e is le (right-t (ltb i (b .n)) (allUnder (b .n) is) u) o (p .stands))
 
 -- what is picked of the first n is below n
 pick-under : (m k : ℕ) (f : ℕ → Bool) (i n : ℕ) → i + m ≤ n → T (allUnder n (pick m k f i))
@@ -66,9 +66,9 @@ sent-out b es zero m st = sent-none b es st
 sent-out b es (suc k) m st =
     let p = sent-out b es k (omega arith) st in
     sent-then b es (tellings b k) (cond (isOpen k b) (sendings (b .me) k (tells k b)) []) (wordsOut b k) (cond (isOpen k b) (wordsTo b k (tells k b)) []) p
-      (both-cond (λ (fs : List Ev) (ws : List Word). Sent b (tellings b k ++ es) fs ws) (isOpen k b) (isOpen k b) (sendings (b .me) k (tells k b)) [] (wordsTo b k (tells k b)) [] refl
-        (λ o. sent-to b (tellings b k ++ es) k (tells k b) m (pick-under (b .n) 4 (λ i. ltb 0 (b .word i .number) && not (b .shown k i)) 0 (b .n) (omega arith)) (ltb-true 0 (b .cost k) o) (p .stands))
-        (λ _. sent-none b (tellings b k ++ es) (p .stands)))
+    (both-cond (λ (fs : List Ev) (ws : List Word). Sent b (tellings b k ++ es) fs ws) (isOpen k b) (isOpen k b) (sendings (b .me) k (tells k b)) [] (wordsTo b k (tells k b)) [] refl
+    (λ o. sent-to b (tellings b k ++ es) k (tells k b) m (pick-under (b .n) 4 (λ i. ltb 0 (b .word i .number) && not (b .shown k i)) 0 (b .n) (omega arith)) (ltb-true 0 (b .cost k) o) (p .stands))
+    (λ _. sent-none b (tellings b k ++ es) (p .stands)))
 
 pub tells-so : TellsSo
 tells-so s es = ((λ j st. (j, sent-out (s .box) es (s .box .n) (le-refl (s .box .n)) st .stands)), λ st. sent-out (s .box) es (s .box .n) (le-refl (s .box .n)) st .flight)

@@ -18,16 +18,16 @@ pub sound-fresh : (n me d : ℕ) → Sound (fresh n me d)
 sound-fresh n me d = record { silent = λ w e. refl; known = λ w f c t e. shut-wire f c t e }
 
 pub sound-passes : (s : Links) → Sound s → Sound (passes s)
-sound-passes s k = record
-  { silent = λ w e. ap (aged (suc (s .tick))) (k .silent w e)
-  ; known = λ w f d t e. k .known w f d t (aged-open (suc (s .tick)) (s .wire w) f d t e .0)
-  }
+sound-passes s k = record {
+  silent = λ w e. ap (aged (suc (s .tick))) (k .silent w e);
+  known = λ w f d t e. k .known w f d t (aged-open (suc (s .tick)) (s .wire w) f d t e .0);
+}
 
 pub sound-rewired : (c : ℕ → ℕ) (s : Links) → Sound s → Sound (rewired c s)
-sound-rewired c s k = record
-  { silent = λ w e. cond-true (eqb (c w) 0) Silent (s .wire w) (eq-eqb (c w) 0 e)
-  ; known = λ w f d t e. of-cond (λ (y : Wire). y ≡ Open f d t → (f < s .n) × ((f ≡ s .me → ⊥) × ((s .last f ≡ d) × (0 < d)))) (eqb (c w) 0) Silent (s .wire w) (λ _ q. shut-wire f d t q) (λ _ q. k .known w f d t q) e
-  }
+sound-rewired c s k = record {
+  silent = λ w e. cond-true (eqb (c w) 0) Silent (s .wire w) (eq-eqb (c w) 0 e);
+  known = λ w f d t e. of-cond (λ (y : Wire). y ≡ Open f d t → (f < s .n) × ((f ≡ s .me → ⊥) × ((s .last f ≡ d) × (0 < d)))) (eqb (c w) 0) Silent (s .wire w) (λ _ q. shut-wire f d t q) (λ _ q. k .known w f d t q) e;
+}
 
 pub sound-fell : (d : ℕ) (s : Links) → Sound (fell d s)
 sound-fell d s = record { silent = λ w e. refl; known = λ w f c t e. shut-wire f c t e }
@@ -42,11 +42,13 @@ sound-greeted v h s a k = record { silent = quiet; known = λ w f d t e. opened 
     quiet w e =
         let off : w ≡ v → ⊥ = λ q. let z : s .cost v ≡ 0 = subst (λ (x : ℕ). s .cost x ≡ 0) q e in omega (arith, a .costs) in
         row-off v w (cond (eqb (h .heard) (s .drawn)) (Open (h .from) (h .drawn) (s .tick)) (Heard (h .from) (h .drawn) (s .tick)))
-          (λ x. cond (eqb (s .last (h .from)) (h .drawn)) (s .wire x) (closedTo (h .from) (s .wire x))) off
+        (λ x. cond (eqb (s .last (h .from)) (h .drawn)) (s .wire x) (closedTo (h .from) (s .wire x))) off
         ∙ of-cond (λ (y : Wire). y ≡ Silent) (eqb (s .last (h .from)) (h .drawn)) (s .wire w) (closedTo (h .from) (s .wire w)) (λ _. k .silent w e) (λ _. silent-closed (h .from) (s .wire w) (k .silent w e))
+
     kept : (w f d t : ℕ) → s .wire w ≡ Open f d t → (s .last (h .from) ≡ h .drawn) ⊎ (f ≡ h .from → ⊥) → row (h .from) (h .drawn) (s .last) f ≡ d
     kept w f d t e (inl q) = of-cond (λ (y : ℕ). y ≡ d) (eqb f (h .from)) (h .drawn) (s .last f) (λ j. sym q ∙ (ap (s .last) (sym (eqb-true f (h .from) j)) ∙ k .known w f d t e .1 .1 .0)) (λ _. k .known w f d t e .1 .1 .0)
     kept w f d t e (inr q) = row-off (h .from) f (h .drawn) (s .last) q ∙ k .known w f d t e .1 .1 .0
+
     opened : (w f d t : ℕ) → OpenedBy v h s w f d t ⊎ OpenBefore v h s w f d t → (f < s .n) × ((f ≡ s .me → ⊥) × ((row (h .from) (h .drawn) (s .last) f ≡ d) × (0 < d)))
     opened w f d t (inl o) = (rw (o .who) (a .one), ((λ q. a .other (sym (o .who) ∙ q)), (subst (λ (x : ℕ). row (h .from) (h .drawn) (s .last) x ≡ d) (sym (o .who)) (row-at (h .from) (h .drawn) (s .last) ∙ sym (o .which)), rw (o .which) (a .drew))))
     opened w f d t (inr o) = let p = k .known w f d t (o .was) in (p .0, (p .1 .0, (kept w f d t (o .was) (o .same), p .1 .1 .1)))

@@ -47,9 +47,9 @@ pick-has zero k f i j a b h c = absurd (omega arith)
 pick-has (suc m) zero f i j a b h c = absurd (omega (arith, many-upto f i j a))
 pick-has (suc m) (suc k) f i j a b h c =
     of-cond (λ (l : List ℕ). isIn j l ≡ true) (f i) (i ∷ pick m k f (i + 1)) (pick m (suc k) f (i + 1))
-      (λ y. here (eqb i j) refl (λ ne. pick-has m k f (i + 1) j (omega arith) (omega arith) h (rw add-one (omega (arith, many-yes f i y)))))
-      (λ y. let ne : i ≡ j → ⊥ = (λ z. true-not-false (f j) h (subst (λ (w : ℕ). f w ≡ false) z y)) in
-        pick-has m (suc k) f (i + 1) j (omega arith) (omega arith) h (rw add-one (omega (arith, many-no f i y))))
+    (λ y. here (eqb i j) refl (λ ne. pick-has m k f (i + 1) j (omega arith) (omega arith) h (rw add-one (omega (arith, many-yes f i y)))))
+    (λ y. let ne : i ≡ j → ⊥ = (λ z. true-not-false (f j) h (subst (λ (w : ℕ). f w ≡ false) z y)) in
+    pick-has m (suc k) f (i + 1) j (omega arith) (omega arith) h (rw add-one (omega (arith, many-no f i y))))
   where
     here : (e : Bool) → eqb i j ≡ e → ((i ≡ j → ⊥) → isIn j (pick m k f (i + 1)) ≡ true) → (eqb i j || isIn j (pick m k f (i + 1))) ≡ true
     here true z ih = or-left (eqb i j) (isIn j (pick m k f (i + 1))) z
@@ -62,6 +62,7 @@ four-fewer n f g p q (suc i) h = go (f i) refl (four-fewer n f g p q i (omega ar
   where
     none : howMany f 0 ≡ 0
     none = omega (arith, many-le f 0)
+
     go : (b : Bool) → f i ≡ b → howMany g i ≤ howMany f i - 4 → howMany g (suc i) ≤ howMany f (suc i) - 4
     go false z ih = omega (arith, many-no f i z, many-no g i (p i (omega arith) z))
     go true z ih = low (ltb (howMany f i) 4) refl
@@ -105,6 +106,7 @@ nothing-starves e r b h i l p q = go (isUntold e (b r) i) refl
   where
     now : 0 < b r .word i .number
     now = omega (arith, rounds-words e r b h i l)
+
     go : (y : Bool) → isUntold e (b r) i ≡ y → b r .shown e i ≡ true
     go true z = absurd (omega (arith, rounds-fewer e r b h (suc i) l, many-yes (isUntold e (b r)) i z))
     go false z = was (ltb 0 (b r .word i .number)) (b r .shown e i) z (lt-ltb 0 (b r .word i .number) now)

@@ -42,11 +42,11 @@ has-kept i x b p e j h = go (eqb j i) refl
 pub takes-kept : (x : Word) (t : ℕ) (b : Box) → Kept b (takes x t b)
 takes-kept x t b =
     of-cond (Kept b) (isNewTo x b) (has (x .about) (cond (eqb (b .me) (x .about)) (ownWord (x .entry .number) t b) (x .entry)) b) b
-      (λ e. has-kept (x .about) (cond (eqb (b .me) (x .about)) (ownWord (x .entry .number) t b) (x .entry)) b
-        (of-cond (λ (y : Entry). newer y (b .word (x .about)) ≡ true) (eqb (b .me) (x .about)) (ownWord (x .entry .number) t b) (x .entry)
-          (λ _. newer-over (x .entry) (b .word (x .about)) (ownWord (x .entry .number) t b) (and-right (isOpen (x .from) b) (newer (x .entry) (b .word (x .about))) e) refl)
-          (λ _. and-right (isOpen (x .from) b) (newer (x .entry) (b .word (x .about))) e)))
-      (λ _. kept-self b)
+    (λ e. has-kept (x .about) (cond (eqb (b .me) (x .about)) (ownWord (x .entry .number) t b) (x .entry)) b
+    (of-cond (λ (y : Entry). newer y (b .word (x .about)) ≡ true) (eqb (b .me) (x .about)) (ownWord (x .entry .number) t b) (x .entry)
+    (λ _. newer-over (x .entry) (b .word (x .about)) (ownWord (x .entry .number) t b) (and-right (isOpen (x .from) b) (newer (x .entry) (b .word (x .about))) e) refl)
+    (λ _. and-right (isOpen (x .from) b) (newer (x .entry) (b .word (x .about))) e)))
+    (λ _. kept-self b)
 
 pub item-kept : (e : ℕ) (x : Item) (t : ℕ) (b : Box) → Kept b (takesItem e x t b)
 item-kept e x t b = of-cond (Kept b) (isStuck (toldWord e (b .me) x) b) b (takes (toldWord e (b .me) x) t b) (λ _. kept-self b) (λ _. takes-kept (toldWord e (b .me) x) t b)
@@ -67,7 +67,7 @@ words-kept fits e (x ∷ xs) (t ∷ ts) b =
     let c = takesItem e x t b in
     let m = marksItem fits e x c in
     kept-on b m (takesAll fits e xs ts m) (grows-on b c m (item-grows e x t b) (mark-grows fits e x c)) (words-grow fits e xs ts m)
-      (kept-on b c m (item-grows e x t b) (mark-grows fits e x c) (item-kept e x t b) (mark-kept fits e x c)) (words-kept fits e xs ts m)
+    (kept-on b c m (item-grows e x t b) (mark-grows fits e x c) (item-kept e x t b) (mark-kept fits e x c)) (words-kept fits e xs ts m)
 
 pub seens-kept : (e : ℕ) (xs : List Sight) (b : Box) (f j : ℕ) → b .shown f j ≡ true → seesAll e xs b .shown f j ≡ true
 unfolding seesAll
@@ -77,13 +77,13 @@ seens-kept e (x ∷ xs) b f j h = seens-kept e xs (sees e (x .about) (x .number)
 pub owed-kept : (t : ℕ) (b : Box) → Kept b (saysIfOwed t b)
 owed-kept t b =
     of-cond (Kept b) (mustSay b && canSay (b .word (b .me) .number)) (saysNow t b) b
-      (λ _. has-kept (b .me) (ownWord (b .word (b .me) .number) t b) b (newer-above (b .word (b .me)) (ownWord (b .word (b .me) .number) t b) refl)) (λ _. kept-self b)
+    (λ _. has-kept (b .me) (ownWord (b .word (b .me) .number) t b) b (newer-above (b .word (b .me)) (ownWord (b .word (b .me) .number) t b) refl)) (λ _. kept-self b)
 
 -- over changed links it stays where the road was and is open, under the same number
 pub relinked-kept : (before after : Links) (b : Box) (e i : ℕ) → b .shown e i ≡ true → 0 < roadCost e before → 0 < roadCost e after → after .last e ≡ before .last e → relinked before after b .shown e i ≡ true
 relinked-kept before after b e i h p q l =
     and-both (eqb (before .last e) (after .last e)) (ltb 0 (roadCost e before) && (ltb 0 (roadCost e after) && b .shown e i)) (eq-eqb (before .last e) (after .last e) (sym l))
-      (and-both (ltb 0 (roadCost e before)) (ltb 0 (roadCost e after) && b .shown e i) (lt-ltb 0 (roadCost e before) p) (and-both (ltb 0 (roadCost e after)) (b .shown e i) (lt-ltb 0 (roadCost e after) q) h))
+    (and-both (ltb 0 (roadCost e before)) (ltb 0 (roadCost e after) && b .shown e i) (lt-ltb 0 (roadCost e before) p) (and-both (ltb 0 (roadCost e after)) (b .shown e i) (lt-ltb 0 (roadCost e after) q) h))
 
 -- each thing that a whole box does
 pub keeps-self : (s : Station) → KeepsShown s s
@@ -135,18 +135,18 @@ keeps-arrives n zero cables ts [] x a = keeps-self (x .at a)
 keeps-arrives n (suc i) cables ts [] x a = keeps-self (x .at a)
 keeps-arrives n zero cables ts (f ∷ fs) x a =
     of-cond (λ (y : Air). KeepsShown (x .at a) (y .at a)) (ltb (cables .to (f .by) (f .on)) n) (meets (cables .to (f .by) (f .on)) (cables .end (f .by) (f .on)) (f .frame) ts x) x
-      (λ _. keeps-meets x (cables .to (f .by) (f .on)) (cables .end (f .by) (f .on)) (f .frame) ts a) (λ _. keeps-self (x .at a))
+    (λ _. keeps-meets x (cables .to (f .by) (f .on)) (cables .end (f .by) (f .on)) (f .frame) ts a) (λ _. keeps-self (x .at a))
 keeps-arrives n (suc i) cables ts (f ∷ fs) x a = keeps-arrives n i cables ts fs x a
 
 pub shown-stays : ShownStays
 shown-stays n cables (Ticks b t) x a =
     of-cond (λ (y : Air). KeepsShown (x .at a) (y .at a)) (ltb b n && not (isIn t (x .tags))) (becomes b (ticks t (x .at b)) (tickOut (ticks t (x .at b))) (t ∷ []) x) x
-      (λ _. keeps-row x b (ticks t (x .at b)) a (keeps-ticks t (x .at b))) (λ _. keeps-self (x .at a))
+    (λ _. keeps-row x b (ticks t (x .at b)) a (keeps-ticks t (x .at b))) (λ _. keeps-self (x .at a))
 shown-stays n cables (Arrives i ts) x a =
     of-cond (λ (y : Air). KeepsShown (x .at a) (y .at a)) (allFresh ts (x .tags)) (arrivesNth n i cables ts (x .sent) x) x (λ _. keeps-arrives n i cables ts (x .sent) x a) (λ _. keeps-self (x .at a))
 shown-stays n cables (Rewires b c) x a =
     of-cond (λ (y : Air). KeepsShown (x .at a) (y .at a)) (ltb b n) (becomes b (hasCosts c (x .at b)) [] [] x) x
-      (λ _. keeps-row x b (hasCosts c (x .at b)) a (keeps-hello (x .at b) (rewired c (x .at b .links)))) (λ _. keeps-self (x .at a))
+    (λ _. keeps-row x b (hasCosts c (x .at b)) a (keeps-hello (x .at b) (rewired c (x .at b .links)))) (λ _. keeps-self (x .at a))
 shown-stays n cables (Falls b d) x a =
     of-cond (λ (y : Air). KeepsShown (x .at a) (y .at a)) (ltb b n && (ltb 0 d && not (isIn d (x .drawn)))) (fallsAt b d x) x
-      (λ _. keeps-row x b (falls d (x .at b)) a (keeps-falls d (x .at b))) (λ _. keeps-self (x .at a))
+    (λ _. keeps-row x b (falls d (x .at b)) a (keeps-falls d (x .at b))) (λ _. keeps-self (x .at a))

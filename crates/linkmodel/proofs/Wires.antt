@@ -49,26 +49,36 @@ accepted w h s e = go (taken (h .from) (s .wire w)) refl
     go : (b : Bool) → taken (h .from) (s .wire w) ≡ b → Taken w h s
     go true k =
         let z : (ltb w wires && (ltb 0 (s .cost w) && eqb (cond (not (ltb (h .from) (s .n)) || (eqb (h .from) (s .me) || eqb (h .drawn) 0)) 2 (cond true 4 0)) 0)) ≡ true =
-          rw k at e in
+        rw k at e in
         absurd (refuted w (s .cost w) (h .from) (s .n) (s .me) (h .drawn) z)
       where
         refuted : (w c f n m d : ℕ) → (ltb w 8 && (ltb 0 c && eqb (cond (not (ltb f n) || (eqb f m || eqb d 0)) 2 4) 0)) ≡ true → ⊥
         refuted w c f n m d e = grind (arith, tells)
     go false k =
         let z : (ltb w wires && (ltb 0 (s .cost w) && eqb (cond (not (ltb (h .from) (s .n)) || (eqb (h .from) (s .me) || eqb (h .drawn) 0)) 2 (cond false 4 0)) 0)) ≡ true =
-          rw k at e in
+        rw k at e in
         let c : ℕ = s .cost w in
-        record { there = w1 w c (h .from) (s .n) (s .me) (h .drawn) z; costs = w2 w c (h .from) (s .n) (s .me) (h .drawn) z; one = w3 w c (h .from) (s .n) (s .me) (h .drawn) z;
-          other = w4 w c (h .from) (s .n) (s .me) (h .drawn) z; drew = w5 w c (h .from) (s .n) (s .me) (h .drawn) z; free = k }
+        record {
+          there = w1 w c (h .from) (s .n) (s .me) (h .drawn) z;
+          costs = w2 w c (h .from) (s .n) (s .me) (h .drawn) z;
+          one = w3 w c (h .from) (s .n) (s .me) (h .drawn) z;
+          other = w4 w c (h .from) (s .n) (s .me) (h .drawn) z;
+          drew = w5 w c (h .from) (s .n) (s .me) (h .drawn) z;
+          free = k;
+        }
       where
         w1 : (w c f n m d : ℕ) → (ltb w 8 && (ltb 0 c && eqb (cond (not (ltb f n) || (eqb f m || eqb d 0)) 2 0) 0)) ≡ true → w < 8
         w1 w c f n m d e = grind (arith, tells)
+
         w2 : (w c f n m d : ℕ) → (ltb w 8 && (ltb 0 c && eqb (cond (not (ltb f n) || (eqb f m || eqb d 0)) 2 0) 0)) ≡ true → 0 < c
         w2 w c f n m d e = grind (arith, tells)
+
         w3 : (w c f n m d : ℕ) → (ltb w 8 && (ltb 0 c && eqb (cond (not (ltb f n) || (eqb f m || eqb d 0)) 2 0) 0)) ≡ true → f < n
         w3 w c f n m d e = grind (arith, tells)
+
         w4 : (w c f n m d : ℕ) → (ltb w 8 && (ltb 0 c && eqb (cond (not (ltb f n) || (eqb f m || eqb d 0)) 2 0) 0)) ≡ true → f ≡ m → ⊥
         w4 w c f n m d e q = grind (arith, tells)
+
         w5 : (w c f n m d : ℕ) → (ltb w 8 && (ltb 0 c && eqb (cond (not (ltb f n) || (eqb f m || eqb d 0)) 2 0) 0)) ≡ true → 0 < d
         w5 w c f n m d e = grind (arith, tells)
 
@@ -103,12 +113,12 @@ pub record OpenBefore (v : ℕ) (h : Hello) (s : Links) (w f d t : ℕ) : Type 0
 pub greeted-open : (v : ℕ) (h : Hello) (s : Links) (w f d t : ℕ) → greeted v h s .wire w ≡ Open f d t → OpenedBy v h s w f d t ⊎ OpenBefore v h s w f d t
 greeted-open v h s w f d t e =
     of-cond (λ (y : Wire). y ≡ Open f d t → OpenedBy v h s w f d t ⊎ OpenBefore v h s w f d t) (eqb w v)
-      (cond (eqb (h .heard) (s .drawn)) (Open (h .from) (h .drawn) (s .tick)) (Heard (h .from) (h .drawn) (s .tick)))
-      (cond (eqb (s .last (h .from)) (h .drawn)) (s .wire w) (closedTo (h .from) (s .wire w)))
-      (λ k. of-cond (λ (y : Wire). y ≡ Open f d t → OpenedBy v h s w f d t ⊎ OpenBefore v h s w f d t) (eqb (h .heard) (s .drawn)) (Open (h .from) (h .drawn) (s .tick)) (Heard (h .from) (h .drawn) (s .tick))
-        (λ j q. inl (record { here = eqb-true w v k; names = eqb-true (h .heard) (s .drawn) j; who = cc; which = cc; when = cc }))
-        (λ j q. heard-wire (h .from) (h .drawn) (s .tick) f d t q))
-      (λ k. of-cond (λ (y : Wire). y ≡ Open f d t → OpenedBy v h s w f d t ⊎ OpenBefore v h s w f d t) (eqb (s .last (h .from)) (h .drawn)) (s .wire w) (closedTo (h .from) (s .wire w))
-        (λ j q. inr (record { away = eqb-false w v k; was = q; same = inl (eqb-true (s .last (h .from)) (h .drawn) j) }))
-        (λ j q. let p = closed-open (h .from) (s .wire w) f d t q in inr (record { away = eqb-false w v k; was = p .0; same = inr (p .1) })))
-      e
+    (cond (eqb (h .heard) (s .drawn)) (Open (h .from) (h .drawn) (s .tick)) (Heard (h .from) (h .drawn) (s .tick)))
+    (cond (eqb (s .last (h .from)) (h .drawn)) (s .wire w) (closedTo (h .from) (s .wire w)))
+    (λ k. of-cond (λ (y : Wire). y ≡ Open f d t → OpenedBy v h s w f d t ⊎ OpenBefore v h s w f d t) (eqb (h .heard) (s .drawn)) (Open (h .from) (h .drawn) (s .tick)) (Heard (h .from) (h .drawn) (s .tick))
+    (λ j q. inl (record { here = eqb-true w v k; names = eqb-true (h .heard) (s .drawn) j; who = cc; which = cc; when = cc }))
+    (λ j q. heard-wire (h .from) (h .drawn) (s .tick) f d t q))
+    (λ k. of-cond (λ (y : Wire). y ≡ Open f d t → OpenedBy v h s w f d t ⊎ OpenBefore v h s w f d t) (eqb (s .last (h .from)) (h .drawn)) (s .wire w) (closedTo (h .from) (s .wire w))
+    (λ j q. inr (record { away = eqb-false w v k; was = q; same = inl (eqb-true (s .last (h .from)) (h .drawn) j) }))
+    (λ j q. let p = closed-open (h .from) (s .wire w) f d t q in inr (record { away = eqb-false w v k; was = p .0; same = inr (p .1) })))
+    e

@@ -119,4 +119,4 @@ abbrev pub OpenMeans : Type 0
 OpenMeans =
     (n : ℕ) (first : ℕ → ℕ) (ms : List Move) → Drawn n first → (a w e r t : ℕ) → a < n → hellos n first ms .box a .wire w ≡ Open e r t →
     (e < n) × ((later : List Move) × (before : List Move) × (v : ℕ) × (ms ≡ later ++ before) × (hellos n first before .box e .drawn ≡ r) ×
-      (whoOn (hellos n first before .box e .wire v) ≡ Some a) × (heardOn (hellos n first before .box e .wire v) ≡ hellos n first ms .box a .drawn))
+    (whoOn (hellos n first before .box e .wire v) ≡ Some a) × (heardOn (hellos n first before .box e .wire v) ≡ hellos n first ms .box a .drawn))

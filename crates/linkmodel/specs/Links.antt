@@ -109,16 +109,16 @@ helloRefusal w h s = cond (not (ltb (h .from) (s .n)) || (eqb (h .from) (s .me) 
 
 -- a hello that isn't refused: its wire is open if it names this box's drawn number; if it brings another drawn number of its box, the road closes on all other wires
 abbrev pub greeted : ℕ → Hello → Links → Links
-greeted w h s = record
-  { n = s .n
-  ; me = s .me
-  ; drawn = s .drawn
-  ; tick = s .tick
-  ; cost = s .cost
-  ; wire = row w (cond (eqb (h .heard) (s .drawn)) (Open (h .from) (h .drawn) (s .tick)) (Heard (h .from) (h .drawn) (s .tick)))
-      (λ v. cond (eqb (s .last (h .from)) (h .drawn)) (s .wire v) (closedTo (h .from) (s .wire v)))
-  ; last = row (h .from) (h .drawn) (s .last)
-  }
+greeted w h s = record {
+  n = s .n;
+  me = s .me;
+  drawn = s .drawn;
+  tick = s .tick;
+  cost = s .cost;
+  wire = row w (cond (eqb (h .heard) (s .drawn)) (Open (h .from) (h .drawn) (s .tick)) (Heard (h .from) (h .drawn) (s .tick)))
+      (λ v. cond (eqb (s .last (h .from)) (h .drawn)) (s .wire v) (closedTo (h .from) (s .wire v)));
+  last = row (h .from) (h .drawn) (s .last);
+}
 
 -- a hello comes on wire w: on a wire that isn't there it is dropped, and a refused one changes nothing
 abbrev pub hearsHello : ℕ → Hello → Links → Links

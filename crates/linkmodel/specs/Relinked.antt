@@ -15,13 +15,13 @@ pub record Sound (s : Links) : Type 0 where
 
 -- the box after its links went from before to after: its words stay, and what e has shown stays just where e's drawn number stayed and the road was open and still is
 abbrev pub relinked : Links → Links → Box → Box
-relinked before after b = record
-  { n = b .n
-  ; me = b .me
-  ; cost = λ e. roadCost e after
-  ; word = b .word
-  ; shown = λ e i. eqb (before .last e) (after .last e) && (ltb 0 (roadCost e before) && (ltb 0 (roadCost e after) && b .shown e i))
-  }
+relinked before after b = record {
+  n = b .n;
+  me = b .me;
+  cost = λ e. roadCost e after;
+  word = b .word;
+  shown = λ e i. eqb (before .last e) (after .last e) && (ltb 0 (roadCost e before) && (ltb 0 (roadCost e after) && b .shown e i));
+}
 
 -- The events of changed links lead a box from the roads of the links before to those of the links after.
 abbrev pub RelinkSo : Type 0

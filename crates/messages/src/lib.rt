@@ -5,7 +5,6 @@ mod values;
 
 ghost use Rattle.messages.specs.Values.{newerId, sameId};
 ghost use mathlib.Core.Path.{_≡_};
-
 pub use values::Hello;
 pub use values::Seens;
 pub use values::Settings;

@@ -39,7 +39,7 @@ agree-read ss a e s t p q = λ k. agreesWith (length ss) (p k) a (q k) e
 pub calm-apart : (ss : List Router) (a e : ℕ) → e < length ss → agreesWith (length ss) (boxIn ss a) a (boxIn ss e) e ≡ false → calmAt ss a ≡ false
 calm-apart ss a e h f =
     and-right (not (mustSay (boxIn ss a))) (allBelow (length ss) (λ e. agreesWith (length ss) (boxIn ss a) a (boxIn ss e) e))
-      (all-fails (length ss) e (λ e. agreesWith (length ss) (boxIn ss a) a (boxIn ss e) e) h f)
+    (all-fails (length ss) e (λ e. agreesWith (length ss) (boxIn ss a) a (boxIn ss e) e) h f)
 
 pub calm-all : (ss : List Router) (a : ℕ) (s : Router) → boxIn ss a ≡ boxOf s → mustSay (boxOf s) ≡ false → allBelow (length ss) (λ e. agreesWith (length ss) (boxIn ss a) a (boxIn ss e) e) ≡ true → calmAt ss a ≡ true
 calm-all ss a s e h all =
@@ -57,4 +57,4 @@ own-is b n a p q =
 pub rest-is : (ss : List Router) → Numbered ss → atRest (worldOf ss) ≡ allBelow (length ss) (calmAt ss)
 rest-is ss h =
     all-same (length ss) (λ a. ownTrue a (worldOf ss) && allBelow (length ss) (λ e. agreesWith (length ss) (boxIn ss a) a (boxIn ss e) e)) (calmAt ss)
-      (λ a l. ap (λ b. b && allBelow (length ss) (λ e. agreesWith (length ss) (boxIn ss a) a (boxIn ss e) e)) (own-is (boxIn ss a) (length ss) a (h a l .0) (h a l .1)))
+    (λ a l. ap (λ b. b && allBelow (length ss) (λ e. agreesWith (length ss) (boxIn ss a) a (boxIn ss e) e)) (own-is (boxIn ss a) (length ss) a (h a l .0) (h a l .1)))

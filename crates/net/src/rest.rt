@@ -1,6 +1,5 @@
 // Whether a net of boxes is at rest.
 use router::Router;
-
 ghost use Prim.Native.Nat.{_<_, _≤_};
 ghost use Rattle.model.specs.Promise.{allBelow};
 ghost use Rattle.model.specs.Settling.{atRest};

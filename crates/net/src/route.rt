@@ -1,7 +1,6 @@
 // What becomes of a packet that boxes hand on from one to the next.
 use router::Hop;
 use router::Router;
-
 ghost use Prim.Native.Nat.{_<_, _≤_};
 ghost use Rattle.model.specs.Boxes.{follows};
 ghost use Rattle.net.specs.Nets.{Delivers, Numbered, boxIn, endOf};
@@ -37,23 +36,48 @@ pub fn follow(boxes: &[Router], from: u8, to: u8) -> Route
     let mut cost = 0u32;
     let mut steps = 0u8;
     if boxes.len() > 64 || from as usize >= boxes.len() {
-        return Route { way, steps, cost, ending: Ending::NoWay(from) };
+        return Route {
+            way,
+            steps,
+            cost,
+            ending: Ending::NoWay(from),
+        };
     }
     let n = boxes.len() as u8;
     for turn in 0..n {
         if at == to {
-            return Route { way, steps, cost, ending: Ending::Arrived };
+            return Route {
+                way,
+                steps,
+                cost,
+                ending: Ending::Arrived,
+            };
         }
         let here = boxes[at as usize];
         let Hop::To(next) = here.hands_on(to) else {
-            return Route { way, steps, cost, ending: Ending::NoWay(at) };
+            return Route {
+                way,
+                steps,
+                cost,
+                ending: Ending::NoWay(at),
+            };
         };
         if next >= n {
-            return Route { way, steps, cost, ending: Ending::NoWay(at) };
+            return Route {
+                way,
+                steps,
+                cost,
+                ending: Ending::NoWay(at),
+            };
         }
         let price = here.cost(next);
         if price == 0 {
-            return Route { way, steps, cost, ending: Ending::Closed(at) };
+            return Route {
+                way,
+                steps,
+                cost,
+                ending: Ending::Closed(at),
+            };
         }
         cost += price as u32;
         at = next;
@@ -62,5 +86,10 @@ pub fn follow(boxes: &[Router], from: u8, to: u8) -> Route
             way[steps as usize] = at;
         }
     }
-    Route { way, steps, cost, ending: Ending::Worn }
+    Route {
+        way,
+        steps,
+        cost,
+        ending: Ending::Worn,
+    }
 }

@@ -9,7 +9,6 @@ pub use wires::relinking;
 pub use wires::shown;
 pub use wires::telling;
 pub use wires::whole_boxes;
-
 ghost use Rattle.model.specs.Boxes.{BoxIsCode, TakesSo, FallSo, TickSo, EveryBoxStands, BoxesDeliver};
 ghost use Rattle.model.specs.Cases.{CasesHold};
 ghost use Rattle.model.specs.Hops.{HopsTrue};

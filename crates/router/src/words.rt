@@ -95,7 +95,11 @@ impl Router {
         ensures { λ r. ⌜ r ≡ record { about = about; count = boxOf self .word about .number; tag = boxOf self .word about .tag } ⌝ }
     {
         if about >= 64 {
-            return WordId { about, count: 0, tag: 0 };
+            return WordId {
+                about,
+                count: 0,
+                tag: 0,
+            };
         }
         WordId {
             about,

@@ -46,7 +46,6 @@ pub record PutTo {A B : Type 0} (f : A → B) (d : A) (all left : List B) (k c :
   pub blank : (j : ℕ) → c ≤ j → getD xs j d ≡ d
 
 module _ {A B : Type 0} (f : A → B) (d : A) (all : List B) where
-
   pub put-none : (left : List B) (xs : List A) → length xs ≡ 4 → ((j : ℕ) → getD xs j d ≡ d) → all ≡ left → PutTo f d all left 0 0 xs
   unfolding firstIn
   put-none left xs l h e = record { room = l; few = omega arith; list = e; blank = λ j q. h j }
@@ -63,7 +62,7 @@ module _ {A B : Type 0} (f : A → B) (d : A) (all : List B) where
         room = length-set xs c x ∙ p .room;
         few = omega arith;
         list = p .list ∙ ap (λ (ys : List B). firstIn f c xs ++ ys) q ∙ sym (append-assoc (firstIn f c xs) (f x ∷ []) rest)
-          ∙ ap (λ (ys : List B). ys ++ rest) (sym (ap (λ (i : ℕ). firstIn f i (set xs c x)) (add-one c) ∙ put-at f xs c x room));
+            ∙ ap (λ (ys : List B). ys ++ rest) (sym (ap (λ (i : ℕ). firstIn f i (set xs c x)) (add-one c) ∙ put-at f xs c x room));
         blank = λ j i. let ne : j ≢ c = omega arith in getD-set-other xs c j x d ne ∙ p .blank j (omega arith);
       }
 
@@ -102,7 +101,7 @@ seens-start n xs b = let z : n ≡ n - 0 = omega arith in ap (λ (i : ℕ). seen
 
 pub news-step : (n k : ℕ) (xs : List Word) (b : Box) → length xs ≡ 4 → n ≤ 4 → k < n →
     newsLeft n k xs b ≡ cond (newer (b .word (getD xs k anyWord .id .about)) (entryOf (getD xs k anyWord)))
-      (record { about = getD xs k anyWord .id .about; entry = b .word (getD xs k anyWord .id .about) } ∷ newsLeft n (k + 1) xs b) (newsLeft n (k + 1) xs b)
+    (record { about = getD xs k anyWord .id .about; entry = b .word (getD xs k anyWord .id .about) } ∷ newsLeft n (k + 1) xs b) (newsLeft n (k + 1) xs b)
 unfolding firstIn newsFor
 news-step n k xs b l few h =
     ap (λ (i : ℕ). newsFor (wordsIn i (drop k xs)) b) (one-more n k h) ∙ ap (λ (ys : List Word). newsFor (wordsIn (suc (n - (k + 1))) ys) b) (next-item anyWord xs k 4 l (omega arith))

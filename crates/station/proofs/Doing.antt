@@ -54,7 +54,7 @@ pub words-did : (w n d : ℕ) (xs : List Word) (ts : List ℕ) (s r : Station) �
 words-did w n d xs ts s r j few l m h es ks e q sent new free st =
     let p : Bundle = record { drawn = d; items = wordsIn n xs } in
     subst (λ (u : Station). Stands (u .box) (takings ks (take n ts) ++ es)) (sym (h e q))
-      (words-so s es e p ks (take n ts) (teller-open w (s .links) e q) sent (take-length n ts (omega arith) ∙ sym (words-length n xs (omega arith))) new free j st .1)
+    (words-so s es e p ks (take n ts) (teller-open w (s .links) e q) sent (take-length n ts (omega arith) ∙ sym (words-length n xs (omega arith))) new free j st .1)
 
 -- what is answered is about boxes that there are
 under : (b : Box) (n k : ℕ) (xs : List Word) → anyIn (isOut n) k (idsOf xs) ≡ false → T (allUnder n (abouts (newsFor (wordsIn k xs) b)))
@@ -63,9 +63,9 @@ under b n zero xs h = tt
 under b n (suc k) [] h = tt
 under b n (suc k) (x ∷ xs) h =
     of-cond (λ (ys : List Item). T (allUnder n (abouts ys))) (newer (b .word (x .id .about)) (entryOf x))
-      (record { about = x .id .about; entry = b .word (x .id .about) } ∷ newsFor (wordsIn k xs) b) (newsFor (wordsIn k xs) b)
-      (λ _. both (ltb (x .id .about) n) (eqb (x .id .count) 0) (anyIn (isOut n) k (idsOf xs)) h (under b n k xs (rest (isOut n (x .id)) (anyIn (isOut n) k (idsOf xs)) h)))
-      (λ _. under b n k xs (rest (isOut n (x .id)) (anyIn (isOut n) k (idsOf xs)) h))
+    (record { about = x .id .about; entry = b .word (x .id .about) } ∷ newsFor (wordsIn k xs) b) (newsFor (wordsIn k xs) b)
+    (λ _. both (ltb (x .id .about) n) (eqb (x .id .count) 0) (anyIn (isOut n) k (idsOf xs)) h (under b n k xs (rest (isOut n (x .id)) (anyIn (isOut n) k (idsOf xs)) h)))
+    (λ _. under b n k xs (rest (isOut n (x .id)) (anyIn (isOut n) k (idsOf xs)) h))
   where
     rest : (p q : Bool) → (p || q) ≡ false → q ≡ false
     rest true true e = e

@@ -67,7 +67,6 @@ shown-out e d p (x ∷ xs) s q c =
     shown k ys = record { on = wireTo e s; frame = Shows (record { drawn = k; items = ys }) } ∷ []
 
 module _ (ps : List Words) (s : Station) (h : (w : ℕ) → w < 8 → Carries (getD ps w noWords) (s .links .drawn) (toldOn w s)) where
-
   -- when it is time to tell
   one-told : isTelling (s .links) ≡ true → (k : ℕ) (b : Bool) → ltb 0 (roadCost k (s .links)) ≡ b →
       cond b (packetOn (wireTo k (s .links)) (getD ps (wireTo k (s .links)) noWords)) [] ≡ cond b (wordsOut k (itemsOf (tells k (s .box)) (s .box)) (s .links)) []

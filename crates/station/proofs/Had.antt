@@ -60,22 +60,27 @@ less-had m n h f = ltb-true m n (of-bit (ltb m n) (∥∥₁-elim h (ℕ-set (bi
 
 sound-had : (s : Station) → ∥ Joined s ∥₁ → Sound (s .links)
 unfolding soundOf
-sound-had s h = record
-  { silent = λ w e. is-silent (s .links .wire w) (∥∥₁-elim h (ℕ-set (soundOf (s .links .wire w)) 0) (λ j. ap soundOf (j .sound .silent w e)))
-  ; known = λ w f d t e. (
-      less-had f (s .links .n) h (λ j. j .sound .known w f d t e .0),
-      ((λ q. ∥∥₁-elim h (λ x y. absurd x) (λ j. j .sound .known w f d t e .1 .0 q)),
-       (∥∥₁-elim h (ℕ-set (s .links .last f) d) (λ j. j .sound .known w f d t e .1 .1 .0),
-        less-had 0 d h (λ j. j .sound .known w f d t e .1 .1 .1))))
-  }
+sound-had s h = record {
+  silent = λ w e. is-silent (s .links .wire w) (∥∥₁-elim h (ℕ-set (soundOf (s .links .wire w)) 0) (λ j. ap soundOf (j .sound .silent w e)));
+  known = λ w f d t e. (
+    less-had f (s .links .n) h (λ j. j .sound .known w f d t e .0),
+    (
+      (λ q. ∥∥₁-elim h (λ x y. absurd x) (λ j. j .sound .known w f d t e .1 .0 q)),
+      (
+        ∥∥₁-elim h (ℕ-set (s .links .last f) d) (λ j. j .sound .known w f d t e .1 .1 .0),
+        less-had 0 d h (λ j. j .sound .known w f d t e .1 .1 .1),
+      ),
+    ),
+  );
+}
 
 pub joined-had : (s : Station) → ∥ Joined s ∥₁ → Joined s
-joined-had s h = record
-  { sound = sound-had s h
-  ; count = ∥∥₁-elim h (ℕ-set (s .links .n) (s .box .n)) (λ j. j .count)
-  ; number = ∥∥₁-elim h (ℕ-set (s .links .me) (s .box .me)) (λ j. j .number)
-  ; roads = λ e. ∥∥₁-elim h (ℕ-set (s .box .cost e) _) (λ j. j .roads e)
-  }
+joined-had s h = record {
+  sound = sound-had s h;
+  count = ∥∥₁-elim h (ℕ-set (s .links .n) (s .box .n)) (λ j. j .count);
+  number = ∥∥₁-elim h (ℕ-set (s .links .me) (s .box .me)) (λ j. j .number);
+  roads = λ e. ∥∥₁-elim h (ℕ-set (s .box .cost e) _) (λ j. j .roads e);
+}
 
 pub next-had : (z : Map) (me : ℕ) (far next : List ℕ) → ∥ Found z me far next ∥₁ → (d : ℕ) → d < z .n → hopOf (getD next d 0) ≡ hop z d me
 next-had z me far next h d l = same-place (hopOf (getD next d 0)) (hop z d me) (∥∥₁-elim h (ℕ-set (placeOf (hopOf (getD next d 0))) (placeOf (hop z d me))) (λ f. ap placeOf (f .nexts d l)))

@@ -41,7 +41,6 @@ dark x y z k h = ap (λ (c : ℕ). x && (y && (ltb 0 c && z))) h ∙ ap (λ b. x
 
 module _ (s : Station) (after : Links) (c : ℕ → ℕ) (anew : ℕ → Bool) (j : Joined s) (k : Sound after) (n : after .n ≡ s .links .n) (me : after .me ≡ s .links .me) (few : s .box .n ≤ 64)
     (roads : (e : ℕ) → e < 64 → c e ≡ roadCost e after) (news : (e : ℕ) → e < 64 → anew e ≡ not (eqb (s .links .last e) (after .last e))) where
-
   costs : (e : ℕ) → roadTo c (s .box) e ≡ roadCost e after
   costs = road-is c after (s .box) k (n ∙ j .count) (me ∙ j .number) few roads
 

@@ -55,7 +55,7 @@ pub taken-roads : (e : ℕ) (x : Item) (t : ℕ) (b : Box) → SameRoads b (take
 taken-roads e x t b =
     of-cond (SameRoads b) (isStuck (toldWord e (b .me) x) b) b (takes (toldWord e (b .me) x) t b) (λ _. same)
     (λ _. of-cond (SameRoads b) (isNewTo (toldWord e (b .me) x) b) (has (x .about) (cond (eqb (b .me) (x .about)) (ownWord (x .entry .number) t b) (x .entry)) b) b
-      (λ _. record { boxes = refl; self = refl; roads = λ i. refl }) (λ _. same))
+    (λ _. record { boxes = refl; self = refl; roads = λ i. refl }) (λ _. same))
   where
     same : SameRoads b b
     same = record { boxes = refl; self = refl; roads = λ i. refl }
@@ -124,7 +124,6 @@ pub record HeardTo (fits : Bool) (e n : ℕ) (xs : List Word) (ts : List ℕ) (a
   pub later : (j : ℕ) → getD (outcomesIn fits e n xs ts a) (k + j) None ≡ getD (outcomesIn fits e (n - k) (drop k xs) (drop k ts) b) j None
 
 module _ (fits : Bool) (e n : ℕ) (xs : List Word) (ts : List ℕ) (a : Box) where
-
   pub heard-none : (os : List (Option Outcome)) → length os ≡ 4 → ((j : ℕ) → getD os j None ≡ None) → AllGood (a .n) n (idsOf xs) → HeardTo fits e n xs ts a 0 a os
   heard-none os l h g =
       let z : n ≡ n - 0 = omega arith in
@@ -153,15 +152,15 @@ module _ (fits : Bool) (e n : ℕ) (xs : List Word) (ts : List ℕ) (a : Box) wh
         good = (none-later (isOut (a .n)) n k (idsOf xs) ids few lt (h .good .0), none-later isSpent n k (idsOf xs) ids few lt (h .good .1));
         room = length-set os k o ∙ h .room;
         done = below-more _ _
-          (λ j i. let ne : j ≢ k = omega arith in getD-set-other os k j o None ne ∙ h .done j i)
-          (let here : k < length os = omega (arith, h .room) in
+            (λ j i. let ne : j ≢ k = omega arith in getD-set-other os k j o None ne ∙ h .done j i)
+            (let here : k < length os = omega (arith, h .room) in
             let at : k + 0 ≡ k = omega arith in
             getD-set-same os k o None here ∙ q ∙ sym (ap (λ (ys : List (Option Outcome)). getD ys 0 None) step) ∙ sym (h .later 0) ∙ ap (λ (i : ℕ). getD all i None) at);
         none = λ j i. let ne : j ≢ k = omega arith in getD-set-other os k j o None ne ∙ h .none j (omega arith);
         later = λ j.
-          let at : (k + 1) + j ≡ k + suc j = omega arith in
-          ap (λ (i : ℕ). getD all i None) at ∙ h .later (suc j) ∙ ap (λ (ys : List (Option Outcome)). getD ys (suc j) None) step
-          ∙ ap (λ (v : Box). getD (outcomesIn fits e (n - (k + 1)) (drop (k + 1) xs) (drop (k + 1) ts) v) j None) (sym p);
+            let at : (k + 1) + j ≡ k + suc j = omega arith in
+            ap (λ (i : ℕ). getD all i None) at ∙ h .later (suc j) ∙ ap (λ (ys : List (Option Outcome)). getD ys (suc j) None) step
+            ∙ ap (λ (v : Box). getD (outcomesIn fits e (n - (k + 1)) (drop (k + 1) xs) (drop (k + 1) ts) v) j None) (sym p);
       }
 
   pub heard-end : (k : ℕ) (b : Box) (os : List (Option Outcome)) → n ≤ k → HeardTo fits e n xs ts a k b os → b ≡ takesAll fits e (wordsIn n xs) (take n ts) a

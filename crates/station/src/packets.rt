@@ -47,7 +47,11 @@ fn teller(links: Links, wire: u8) -> Option<u8>
     ensures { λ r. ⌜ r ≡ teller wire (linksOf links) ⌝ }
 {
     match links.who(wire) {
-        Some(from) => if links.road(from) > 0 { Some(from) } else { None },
+        Some(from) => if links.road(from) > 0 {
+            Some(from)
+        } else {
+            None
+        },
         None => None,
     }
 }

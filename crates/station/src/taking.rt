@@ -66,7 +66,13 @@ pub(crate) fn hear_all(
     let mut next = router;
     let mut outcomes = [None; 4];
     for k in 0..words.count {
-        let (heard, outcome) = hear_one(next, from, words.items[k as usize], tags[k as usize], fits);
+        let (heard, outcome) = hear_one(
+            next,
+            from,
+            words.items[k as usize],
+            tags[k as usize],
+            fits,
+        );
         next = heard;
         outcomes[k as usize] = outcome;
     }

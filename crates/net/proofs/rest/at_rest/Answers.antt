@@ -22,6 +22,6 @@ loop-a-again c = all-more (c .loop-a .a) _ (c .loop-a .inv) (sym (c .if-not-calm
 pub returns : need.returns
 returns c =
     λ few h.
-      let end : c .loop-a .a ≡ length (c .args .boxes .now) = omega arith in
-      let P : ℕ → Type 0 = λ n. allBelow n (calmAt (c .args .boxes .now)) ≡ true in
-      sym (rest-is (c .args .boxes .now) h ∙ subst P end (c .loop-a .inv))
+    let end : c .loop-a .a ≡ length (c .args .boxes .now) = omega arith in
+    let P : ℕ → Type 0 = λ n. allBelow n (calmAt (c .args .boxes .now)) ≡ true in
+    sym (rest-is (c .args .boxes .now) h ∙ subst P end (c .loop-a .inv))

@@ -22,14 +22,14 @@ returns-then-not-agree c =
     let one = box-read (c .args .boxes .now) (c .args .a) (c .index-boxes-a .result) (c .pre .0) (c .index-boxes-a .is) in
     let other = box-read (c .args .boxes .now) (c .loop-e .e) (c .index-boxes-e .result) (c .loop-e-test .taken) (c .index-boxes-e .is) in
     sym (calm-apart (c .args .boxes .now) (c .args .a) (c .loop-e .e) (c .loop-e-test .taken)
-      (agree-read (c .args .boxes .now) (c .args .a) (c .loop-e .e) (c .index-boxes-a .result) (c .index-boxes-e .result) one other ∙ sym (c .if-not-agree .ensures tt)))
+    (agree-read (c .args .boxes .now) (c .args .a) (c .loop-e .e) (c .index-boxes-a .result) (c .index-boxes-e .result) one other ∙ sym (c .if-not-agree .ensures tt)))
 
 pub loop-e-again : need.loop-e-again
 loop-e-again c =
     let one = box-read (c .args .boxes .now) (c .args .a) (c .index-boxes-a .result) (c .pre .0) (c .index-boxes-a .is) in
     let other = box-read (c .args .boxes .now) (c .loop-e .e) (c .index-boxes-e .result) (c .loop-e-test .taken) (c .index-boxes-e .is) in
     all-more (c .loop-e .e) _ (c .loop-e .inv)
-      (agree-read (c .args .boxes .now) (c .args .a) (c .loop-e .e) (c .index-boxes-a .result) (c .index-boxes-e .result) one other ∙ sym (c .if-not-agree .ensures tt))
+    (agree-read (c .args .boxes .now) (c .args .a) (c .loop-e .e) (c .index-boxes-a .result) (c .index-boxes-e .result) one other ∙ sym (c .if-not-agree .ensures tt))
 
 pub returns : need.returns
 returns c =

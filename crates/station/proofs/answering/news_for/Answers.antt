@@ -21,9 +21,10 @@ pub loop-k-holds : need.loop-k-holds
 loop-k-holds c =
     let p = c .args .words in
     let b = boxOf (c .args .router) in
-    let x = c .blank-items .result in
-    (put-none itemOf noWord (newsFor (wordsIn (p .count) (p .items)) b) (newsLeft (p .count) 0 (p .items) b) (x ∷ x ∷ x ∷ x ∷ []) refl (four-blank x noWord (c .blank-items .ensures)) (news-start (p .count) (p .items) b),
-      all-start (b .n) (p .count) (p .items) (c .pre .1))
+    let x = c .blank-items .result in (
+      put-none itemOf noWord (newsFor (wordsIn (p .count) (p .items)) b) (newsLeft (p .count) 0 (p .items) b) (x ∷ x ∷ x ∷ x ∷ []) refl (four-blank x noWord (c .blank-items .ensures)) (news-start (p .count) (p .items) b),
+      all-start (b .n) (p .count) (p .items) (c .pre .1),
+    )
 
 pub id-of-requires : need.id-of-requires
 id-of-requires c κs =
@@ -55,16 +56,17 @@ loop-k-again c =
     let m = c .loop-k .count in
     let inv = c .loop-k .inv in
     let tested : (t : Bool) → t ≡ newerId (c .id-of .result) (x .id) → left ≡ cond t (new ∷ rest) rest =
-    λ t e. news-step n k (p .items) b l few h ∙ ap (λ (s : Bool). cond s (new ∷ rest) rest) (sym (e ∙ ap (λ (y : WordId). newerId y (x .id)) (c .id-of .ensures))) in
-    (elim (c .if-is-newer-than .came) [
-      | then-is-newer-than w ↦
-          put-as itemOf noWord all rest (k + 1) (m + 1) (c .if-is-newer-than .count) (set ys m (w .word-of .result)) (c .if-is-newer-than .items) (w .count-is) (w .items-is)
-          (put-more itemOf noWord all left rest k m ys (w .word-of .result) (omega arith) (inv .0) (tested true (w .if-is-newer-than .ensures tt) ∙ ap (λ (i : Item). i ∷ rest) (sym (w .word-of .ensures))))
-      | else-is-newer-than w ↦
-          put-as itemOf noWord all rest (k + 1) m (c .if-is-newer-than .count) ys (c .if-is-newer-than .items) (w .count-is) (w .items-is)
-          (put-not itemOf noWord all left rest k m ys (inv .0) (tested false (w .if-is-newer-than .ensures tt)))
-    ],
-      all-next (b .n) n k (p .items) l few h (inv .1))
+    λ t e. news-step n k (p .items) b l few h ∙ ap (λ (s : Bool). cond s (new ∷ rest) rest) (sym (e ∙ ap (λ (y : WordId). newerId y (x .id)) (c .id-of .ensures))) in (
+      elim (c .if-is-newer-than .came) [
+        | then-is-newer-than w ↦
+            put-as itemOf noWord all rest (k + 1) (m + 1) (c .if-is-newer-than .count) (set ys m (w .word-of .result)) (c .if-is-newer-than .items) (w .count-is) (w .items-is)
+            (put-more itemOf noWord all left rest k m ys (w .word-of .result) (omega arith) (inv .0) (tested true (w .if-is-newer-than .ensures tt) ∙ ap (λ (i : Item). i ∷ rest) (sym (w .word-of .ensures))))
+        | else-is-newer-than w ↦
+            put-as itemOf noWord all rest (k + 1) m (c .if-is-newer-than .count) ys (c .if-is-newer-than .items) (w .count-is) (w .items-is)
+            (put-not itemOf noWord all left rest k m ys (inv .0) (tested false (w .if-is-newer-than .ensures tt)))
+      ],
+      all-next (b .n) n k (p .items) l few h (inv .1),
+    )
 
 pub returns : need.returns
 returns c =

@@ -22,9 +22,10 @@ use Rattle.station.proofs.answering.seens_for.Needs.{then-is-same-as, else-is-
 pub loop-k-holds : need.loop-k-holds
 loop-k-holds c =
     let p = c .args .words in
-    let b = boxOf (c .args .router) in
-    (put-none sightOf noId (seensFor (wordsIn (p .count) (p .items)) b) (seensLeft (p .count) 0 (p .items) b) (noId ∷ noId ∷ noId ∷ noId ∷ []) refl (four-blank noId noId refl) (seens-start (p .count) (p .items) b),
-      all-start (b .n) (p .count) (p .items) (c .pre .1))
+    let b = boxOf (c .args .router) in (
+      put-none sightOf noId (seensFor (wordsIn (p .count) (p .items)) b) (seensLeft (p .count) 0 (p .items) b) (noId ∷ noId ∷ noId ∷ noId ∷ []) refl (four-blank noId noId refl) (seens-start (p .count) (p .items) b),
+      all-start (b .n) (p .count) (p .items) (c .pre .1),
+    )
 
 pub id-of-requires : need.id-of-requires
 id-of-requires c κs =
@@ -49,16 +50,17 @@ loop-k-again c =
     let m = c .loop-k .count in
     let inv = c .loop-k .inv in
     let tested : (t : Bool) → t ≡ sameId (x .id) (c .id-of .result) → left ≡ cond t (sightOf (x .id) ∷ rest) rest =
-    λ t e. seens-step n k (p .items) b l few h ∙ ap (λ (s : Bool). cond s (sightOf (x .id) ∷ rest) rest) (sym (e ∙ ap (λ (y : WordId). sameId (x .id) y) (c .id-of .ensures))) in
-    (elim (c .if-is-same-as .came) [
-      | then-is-same-as w ↦
-          put-as sightOf noId all rest (k + 1) (m + 1) (c .if-is-same-as .count) (set ys m (x .id)) (c .if-is-same-as .items) (w .count-is) (w .items-is)
-          (put-more sightOf noId all left rest k m ys (x .id) (omega arith) (inv .0) (tested true (w .if-is-same-as .ensures tt)))
-      | else-is-same-as w ↦
-          put-as sightOf noId all rest (k + 1) m (c .if-is-same-as .count) ys (c .if-is-same-as .items) (w .count-is) (w .items-is)
-          (put-not sightOf noId all left rest k m ys (inv .0) (tested false (w .if-is-same-as .ensures tt)))
-    ],
-      all-next (b .n) n k (p .items) l few h (inv .1))
+    λ t e. seens-step n k (p .items) b l few h ∙ ap (λ (s : Bool). cond s (sightOf (x .id) ∷ rest) rest) (sym (e ∙ ap (λ (y : WordId). sameId (x .id) y) (c .id-of .ensures))) in (
+      elim (c .if-is-same-as .came) [
+        | then-is-same-as w ↦
+            put-as sightOf noId all rest (k + 1) (m + 1) (c .if-is-same-as .count) (set ys m (x .id)) (c .if-is-same-as .items) (w .count-is) (w .items-is)
+            (put-more sightOf noId all left rest k m ys (x .id) (omega arith) (inv .0) (tested true (w .if-is-same-as .ensures tt)))
+        | else-is-same-as w ↦
+            put-as sightOf noId all rest (k + 1) m (c .if-is-same-as .count) ys (c .if-is-same-as .items) (w .count-is) (w .items-is)
+            (put-not sightOf noId all left rest k m ys (inv .0) (tested false (w .if-is-same-as .ensures tt)))
+      ],
+      all-next (b .n) n k (p .items) l few h (inv .1),
+    )
 
 pub returns : need.returns
 returns c =

@@ -37,8 +37,8 @@ hear-one-outcome-requires c κs =
     let road : 0 < b .cost (a .from) = subst (λ (i : ℕ). 0 < i) (sym (inv .same .roads (a .from))) (c .pre .1 .1 .0) in
     ap (λ (x : WordId). idRefusal (a .from) x b) (sym (ids-at xs k))
     ∙ id-fits (a .from) (getD (idsOf xs) k noId) b one road
-      (subst (λ (i : ℕ). isOut i (getD (idsOf xs) k noId) ≡ false) (sym (inv .same .boxes)) (none-here (isOut (a .router .n)) n k (idsOf xs) ids m h (inv .good .0)))
-      (none-here isSpent n k (idsOf xs) ids m h (inv .good .1))
+    (subst (λ (i : ℕ). isOut i (getD (idsOf xs) k noId) ≡ false) (sym (inv .same .boxes)) (none-here (isOut (a .router .n)) n k (idsOf xs) ids m h (inv .good .0)))
+    (none-here isSpent n k (idsOf xs) ids m h (inv .good .1))
 
 pub loop-k-again : need.loop-k-again
 loop-k-again c =
@@ -47,7 +47,7 @@ loop-k-again c =
     let m : length (a .tags) ≡ 4 = search needs in
     let one = c .hear-one-outcome in
     heard-more (a .fits) (a .from) (a .words .count) (a .words .items) (a .tags) (boxOf (a .router)) (c .loop-k .k) (boxOf (c .loop-k .next)) (boxOf (one .result .0)) (c .loop-k .outcomes) (one .result .1)
-      l m (c .pre .0) (c .loop-k-test .taken) (c .loop-k .inv) (one .ensures .is) (one .ensures .outcome)
+    l m (c .pre .0) (c .loop-k-test .taken) (c .loop-k .inv) (one .ensures .is) (one .ensures .outcome)
 
 pub returns : need.returns
 returns c =

@@ -17,11 +17,12 @@ loop-w-again c =
     let w = c .loop-w .w in
     let x = c .words-on .result in
     let d = c .args .links .drawn in
-    let s = partsOf (c .args .links) (c .args .router) in
-    (length-set xs w x ∙ c .loop-w .inv .0,
+    let s = partsOf (c .args .links) (c .args .router) in (
+      length-set xs w x ∙ c .loop-w .inv .0,
       below-more _ _
-      (λ k h.
-        let ne : k ≢ w = omega arith in
-        subst (λ (p : Words). Carries p d (toldOn k s)) (sym (getD-set-other xs w k x noWords ne)) (c .loop-w .inv .1 k h))
-      (let lt : w < length xs = omega (arith, c .loop-w .inv .0) in
-        subst (λ (p : Words). Carries p d (toldOn w s)) (sym (getD-set-same xs w x noWords lt)) (c .words-on .ensures)))
+          (λ k h.
+          let ne : k ≢ w = omega arith in
+          subst (λ (p : Words). Carries p d (toldOn k s)) (sym (getD-set-other xs w k x noWords ne)) (c .loop-w .inv .1 k h))
+          (let lt : w < length xs = omega (arith, c .loop-w .inv .0) in
+          subst (λ (p : Words). Carries p d (toldOn w s)) (sym (getD-set-same xs w x noWords lt)) (c .words-on .ensures)),
+    )

@@ -43,7 +43,7 @@ returns c =
       drawn = refl;
       count = count;
       items = ap (λ (n : ℕ). wordsIn n xs) count ∙ words-by xs ys all
-        (λ j q.
+          (λ j q.
           let l : j < length ps = omega arith in
           inv .1 j (omega arith)
           ∙ ap (λ (p : ℕ). record { about = p; entry = b .word p }) (ap (λ (qs : List ℕ). getD qs j 0) (c .tells-picked .ensures .items) ∙ at-padded ps (replicate (4 - length ps) 0) j l)

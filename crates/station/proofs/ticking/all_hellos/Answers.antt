@@ -14,8 +14,9 @@ pub loop-w-again : need.loop-w-again
 loop-w-again c =
     let xs = c .loop-w .all in
     let w = c .loop-w .w in
-    let x = c .hello-on .result in
-    (length-set xs w x ∙ c .loop-w .inv .0,
+    let x = c .hello-on .result in (
+      length-set xs w x ∙ c .loop-w .inv .0,
       below-more _ _
-      (λ k h. let ne : k ≢ w = omega arith in ap sentAs (getD-set-other xs w k x None ne) ∙ c .loop-w .inv .1 k h)
-      (let lt : w < length xs = omega (arith, c .loop-w .inv .0) in ap sentAs (getD-set-same xs w x None lt) ∙ c .hello-on .ensures))
+          (λ k h. let ne : k ≢ w = omega arith in ap sentAs (getD-set-other xs w k x None ne) ∙ c .loop-w .inv .1 k h)
+          (let lt : w < length xs = omega (arith, c .loop-w .inv .0) in ap sentAs (getD-set-same xs w x None lt) ∙ c .hello-on .ensures),
+    )

@@ -12,4 +12,5 @@ returns-then-about-ge64 c =
     λ k. record {
       about = c .args .about;
       count = sym (at-past (c .args .self .counts) (c .args .about) 64 counts (c .if-about-ge64 .taken)) k;
-      tag = sym (at-past (c .args .self .tags) (c .args .about) 64 tags (c .if-about-ge64 .taken)) k }
+      tag = sym (at-past (c .args .self .tags) (c .args .about) 64 tags (c .if-about-ge64 .taken)) k;
+    }

@@ -28,7 +28,7 @@ settled-station-requires c κs =
     let fits = eqb (p .drawn) (c .last .result) in
     let ts = take (p .count) (c .args .tags) in
     subst (λ (b : Box). Joined (withBox b s)) (sym (c .hear-all .ensures .is))
-      (joined-roads s (takesAll fits (c .args .from) (bundleOf p .items) ts (s .box)) (joined-had s (c .args .self .joined)) (all-roads fits (c .args .from) (bundleOf p .items) ts (s .box)))
+    (joined-roads s (takesAll fits (c .args .from) (bundleOf p .items) ts (s .box)) (joined-had s (c .args .self .joined)) (all-roads fits (c .args .from) (bundleOf p .items) ts (s .box)))
 
 pub seens-for-requires : need.seens-for-requires
 seens-for-requires c κs =
@@ -62,12 +62,12 @@ returns c =
     let words = carries-as (c .drawn-drawn .ensures) refl (c .news-for .ensures) in
     record {
       is = c .settled-station .ensures
-        ∙ same-station {t = heardWords e (bundleOf p) ts s} refl (c .hear-all .ensures .is ∙ ap (λ (k : ℕ). takesAll (eqb (p .drawn) k) e xs ts (s .box)) (c .last .ensures));
+          ∙ same-station {t = heardWords e (bundleOf p) ts s} refl (c .hear-all .ensures .is ∙ ap (λ (k : ℕ). takesAll (eqb (p .drawn) k) e xs ts (s .box)) (c .last .ensures));
       wire = c .lowest .ensures;
       seens = seens;
       words = words;
       outcomes = λ j. c .hear-all .ensures .outcomes j ∙ ap (λ (k : ℕ). getD (outcomesIn (eqb (p .drawn) k) e (p .count) (p .items) (c .args .tags) (s .box)) j None) (c .last .ensures);
       out = ap (λ (w : ℕ). answerOn w (c .seens-for .result) (c .news-for .result)) (c .lowest .ensures)
-        ∙ ap₂ (λ (a b : List Out). a ++ b) (shown-out e (r .links .drawn) (c .seens-for .result) (seensFor xs (r .box)) (r .links) refl seens)
+          ∙ ap₂ (λ (a b : List Out). a ++ b) (shown-out e (r .links .drawn) (c .seens-for .result) (seensFor xs (r .box)) (r .links) refl seens)
           (packet-out e (r .links .drawn) (c .news-for .result) (newsFor xs (r .box)) (r .links) refl words);
     }

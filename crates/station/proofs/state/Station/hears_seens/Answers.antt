@@ -33,9 +33,10 @@ rejoined-requires c κs =
     let s = stationOf (c .args .self) in
     let e = c .in-Ok .from in
     let xs = seensOf (c .args .seens) .items in
-    let q = c .seen-all-router .ensures in
-    (subst (λ (b : Box). Joined (withBox b s)) (sym q) (seen-joined e xs s (joined-had s (c .args .self .joined))),
-      (ap mapIn q ∙ seen-map e xs (s .box), ap (λ (b : Box). b .me) q ∙ seen-self e xs (s .box)))
+    let q = c .seen-all-router .ensures in (
+      subst (λ (b : Box). Joined (withBox b s)) (sym q) (seen-joined e xs s (joined-had s (c .args .self .joined))),
+      (ap mapIn q ∙ seen-map e xs (s .box), ap (λ (b : Box). b .me) q ∙ seen-self e xs (s .box)),
+    )
 
 pub returns-then-seens-last : need.returns-then-seens-last
 returns-then-seens-last c =
@@ -46,7 +47,7 @@ returns-then-seens-last c =
       so = λ es st. st;
       refused = c .in-Ok .ensures tt .refused;
       is = sym (ap (λ (o : Option ℕ). seensFrom o p s) (c .in-Ok .ensures tt .from)
-        ∙ ap (λ (b : Bool). withBox (cond b (seesAll e (p .items) (s .box)) (s .box)) s) (ne-eqb (p .drawn) (s .links .last e) (λ q. c .if-seens-last .taken (q ∙ sym (c .last .ensures)))));
+          ∙ ap (λ (b : Bool). withBox (cond b (seesAll e (p .items) (s .box)) (s .box)) s) (ne-eqb (p .drawn) (s .links .last e) (λ q. c .if-seens-last .taken (q ∙ sym (c .last .ensures)))));
     }
 
 pub returns-else-seens-last : need.returns-else-seens-last

@@ -49,7 +49,7 @@ returns-in-Ok c =
     record {
       so = words-did (c .args .wire) (p .count) (p .drawn) (p .items) (c .args .tags) s r j (fine .0) l m (λ e q. all ∙ ap (λ (o : Option ℕ). wordsFrom o (bundleOf p) ts s) q);
       sends = answers-did (c .args .wire) (p .count) (p .drawn) (p .items) r (joined-had r (c .heard .result .station .joined))
-        (subst (λ (i : ℕ). anyIn (isOut i) (p .count) (idsOf (p .items)) ≡ false) (sym size) (fine .1 .0));
+          (subst (λ (i : ℕ). anyIn (isOut i) (p .count) (idsOf (p .items)) ≡ false) (sym size) (fine .1 .0));
       refused = refused;
       is = all;
       wire = done .wire ∙ ap (λ (o : Option ℕ). wireBack o (r .links)) is;

@@ -9,8 +9,11 @@ use Rattle.station.proofs.state.Station.rejoined.Needs as need
 
 pub ghost-result : need.ghost-result
 ghost-result c =
-    let s = c .args .self in
-    (∣ c .pre .0 ∣₁,
-      (subst (λ (m : ℕ). ∥ Found (mapIn (boxOf (c .args .router))) m (s .far) (s .next) ∥₁) (sym (c .pre .1 .1))
-        (subst (λ (z : Map). ∥ Found z (boxOf (s .router) .me) (s .far) (s .next) ∥₁) (sym (c .pre .1 .0)) (s .ways)),
-      tt))
+    let s = c .args .self in (
+      ∣ c .pre .0 ∣₁,
+      (
+        subst (λ (m : ℕ). ∥ Found (mapIn (boxOf (c .args .router))) m (s .far) (s .next) ∥₁) (sym (c .pre .1 .1))
+            (subst (λ (z : Map). ∥ Found z (boxOf (s .router) .me) (s .far) (s .next) ∥₁) (sym (c .pre .1 .0)) (s .ways)),
+        tt,
+      ),
+    )

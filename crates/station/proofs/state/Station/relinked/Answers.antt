@@ -17,11 +17,12 @@ rejoined-requires c κs =
     let s = stationOf (c .args .self) in
     let after = linksOf (c .args .links) in
     let j = joined-had s (c .args .self .joined) in
-    let q = c .relink .ensures in
-    (subst Joined (sym (same-station {t = relinkAs after s} refl
-      (q ∙ relink-is s after (at (c .all-roads-roads .result)) (bit (c .heard-anew-anew .result)) j (c .pre .0) (c .pre .1 .0) (c .pre .1 .1) (c .args .self .router .few) (c .all-roads-roads .ensures) (c .heard-anew-anew .ensures))))
-      (joined-relinked s after j (c .pre .0) (c .pre .1 .0) (c .pre .1 .1)),
-      (ap mapIn q, ap (λ (b : Box). b .me) q))
+    let q = c .relink .ensures in (
+      subst Joined (sym (same-station {t = relinkAs after s} refl
+          (q ∙ relink-is s after (at (c .all-roads-roads .result)) (bit (c .heard-anew-anew .result)) j (c .pre .0) (c .pre .1 .0) (c .pre .1 .1) (c .args .self .router .few) (c .all-roads-roads .ensures) (c .heard-anew-anew .ensures))))
+          (joined-relinked s after j (c .pre .0) (c .pre .1 .0) (c .pre .1 .1)),
+      (ap mapIn q, ap (λ (b : Box). b .me) q),
+    )
 
 pub returns : need.returns
 returns c =
