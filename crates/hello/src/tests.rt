@@ -101,7 +101,11 @@ fn forty_ticks_keep_it_and_one_more_closes_it() -> Result<(), Fail> {
 // While the lower of two wires is lost the road goes over the other, and back once the lower one is found.
 #[test]
 fn goes_over_the_lower_wire_again() -> Result<(), Fail> {
-    let fits = Hello { from: 1, drawn: 22, heard: 11 };
+    let fits = Hello {
+        from: 1,
+        drawn: 22,
+        heard: 11,
+    };
     let a = granted(ticked(open()?, 30)?.hears(5, fits))?;
     check_eq(a.road(1), 7)?;
     let a = ticked(a, 11)?;

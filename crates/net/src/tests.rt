@@ -27,7 +27,11 @@ fn told(router: Router, from: u8, word: Word) -> Result<Router, Fail> {
 fn refused_where_the_road_closed() -> Result<(), Fail> {
     let middle = allowed(allowed(begun(1, 0, 2)?.road(2, 1))?.says(4))?;
     let (a, c) = (begun(0, 1, 1)?, begun(2, 1, 3)?);
-    let (of_a, of_b, of_c) = (allowed(a.word(0))?, allowed(middle.word(1))?, allowed(c.word(2))?);
+    let (of_a, of_b, of_c) = (
+        allowed(a.word(0))?,
+        allowed(middle.word(1))?,
+        allowed(c.word(2))?,
+    );
     let a = told(told(a, 1, of_b)?, 1, of_c)?;
     let b = told(told(middle, 0, of_a)?, 2, of_c)?;
     let c = told(told(c, 1, of_a)?, 1, of_b)?;

@@ -1,5 +1,5 @@
 -- What a packet is that isn't refused, and who sent it.
-use mathlib.Core.Path.{_≡_, refl, sym, ap, _∙_, subst}
+use mathlib.Core.Path.{_≡_, refl, ap, _∙_, subst}
 use mathlib.Core.Bool.{Bool, true, false, cond, _||_, not}
 use mathlib.Core.List.{List}
 use Prim.Native.Nat.{ℕ, _<_, _≤_}
@@ -17,8 +17,7 @@ use Rattle.linkmodel.specs.Station.{Station, openTo, teller}
 use Rattle.linkmodel.specs.Calls.{Joined}
 use Rattle.linkmodel.proofs.Relinks.{road-beyond}
 use Rattle.station.specs.Packets.{AllGood, anyIn, isOut, isSpent, packetRefusal, roadRefusal}
-use Rattle.station.specs.declared.answers.Refusal.{Refusal}
-use Rattle.station.specs.declared.answers.Refusal.the-variants.{OutOfRange, NoRoad, CountSpent}
+use Rattle.station.specs.declared.answers.Refusal.the-variants.{OutOfRange, CountSpent}
 
 pub admitted : (n : ℕ) (from : Option ℕ) (k : ℕ) (xs : List WordId) → packetRefusal n from k xs ≡ None → (k ≤ 4) × AllGood n k xs
 admitted n from k xs e = let p = go (eqb k 0) (ltb 4 k) (anyIn (isOut n) k xs) (anyIn isSpent k xs) from e in (ltb-false 4 k (p .0), (p .1 .0, p .1 .1))

@@ -1,6 +1,6 @@
 -- What is answered, one after the other.
 use mathlib.Core.Path.{_≡_, refl, sym, ap, _∙_, subst}
-use mathlib.Core.Bool.{Bool, true, false, cond, _&&_, _||_, not}
+use mathlib.Core.Bool.{Bool, true, false, cond, _||_, not}
 use mathlib.Core.List.{List, [], _∷_, _++_, append-assoc, append-nil}
 use mathlib.Core.Logic.{_≢_}
 use Prim.Native.Nat.{ℕ, zero, suc, _+_, _-_, _<_, _≤_}
@@ -19,7 +19,7 @@ use Rattle.model.specs.Code.{sameWord}
 use Rattle.model.specs.Words.{newer}
 use Rattle.linkmodel.specs.Station.{Item, Sight, newsFor, seensFor}
 use Rattle.station.specs.Packets.{anyIn, firstIn, isOut, noId, sightOf}
-use Rattle.station.specs.Ticking.{itemOf, wordsIn}
+use Rattle.station.specs.Ticking.{wordsIn}
 use Rattle.messages.specs.declared.values.Seens.{Seens}
 use Rattle.station.specs.Hearing.{Showing, idsOf}
 use Rattle.station.proofs.Scans.{next-item, none-here, none-later, none-more, one-more}

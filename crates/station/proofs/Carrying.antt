@@ -1,13 +1,11 @@
 -- A packet of words carries a list of them.
-use mathlib.Core.Path.{_≡_, refl, sym, ap, ap₂, _∙_, subst}
+use mathlib.Core.Path.{_≡_, refl, ap, ap₂, _∙_, subst}
 use mathlib.Core.Bool.{Bool, true, false, cond}
 use mathlib.Core.List.{List, [], _∷_, _++_}
 use lib.Dec.{eqb}
 use Prim.Native.Nat.{ℕ, zero, suc, _+_, _-_, _<_, _≤_, zero-le, suc-le-suc}
 use native.Mathlib.Nat.{le-of-suc-le-suc, not-suc-le-zero}
-use native.Mathlib.Omega.{arith}
-use lib.ListN.{length, getD, replicate}
-use Rattle.bits.specs.Bits.{padded}
+use lib.ListN.{length, getD}
 use Rattle.messages.specs.declared.values.Word.{Word}
 use Rattle.messages.specs.declared.values.Words.{Words}
 use Rattle.std.specs.declared.option.Option.{Option}

@@ -1,23 +1,21 @@
 -- Each call does its events.
 use mathlib.Core.Path.{_≡_, refl, sym, ap, _∙_, subst}
-use mathlib.Core.Bool.{Bool, true, false, cond, _&&_, _||_, not}
+use mathlib.Core.Bool.{Bool, true, false, _&&_, _||_, not}
 use mathlib.Core.List.{List, [], _∷_, _++_}
-use Prim.Native.Nat.{ℕ, zero, suc, _<_, _≤_}
+use Prim.Native.Nat.{ℕ, zero, suc, _≤_}
 use native.Mathlib.Nat.{le-of-suc-le-suc, not-suc-le-zero}
 use native.Mathlib.Omega.{arith}
 use lib.Dec.{T, eqb, ltb}
 use lib.ListN.{length, take}
-use borrow.Author.Tests.{lt-ltb}
 use Rattle.std.specs.declared.option.Option.the-variants.{Some}
 use Rattle.messages.specs.Values.{entryOf}
 use Rattle.messages.specs.declared.values.Word.{Word}
-use Rattle.messages.specs.declared.values.WordId.{WordId}
 use Rattle.model.specs.Box.{Box, Stands}
 use Rattle.model.specs.Words.{Ev, newer}
 use Rattle.model.proofs.Tests.{of-cond}
 use Rattle.linkmodel.specs.Calls.{Does, Joined, abouts, allUnder, expired, saying}
-use Rattle.linkmodel.specs.Links.{passes, relinks, roadCost}
-use Rattle.linkmodel.specs.Station.{Bundle, Item, Seens, Station, heardWords, newsFor, takings, teller, ticks}
+use Rattle.linkmodel.specs.Links.{passes, relinks}
+use Rattle.linkmodel.specs.Station.{Bundle, Item, Station, heardWords, newsFor, takings, teller, ticks}
 use Rattle.linkmodel.proofs.Joins.{ticks-so}
 use Rattle.linkmodel.proofs.Sendings.{answers-so, tells-so}
 use Rattle.linkmodel.proofs.Takings.{words-so}

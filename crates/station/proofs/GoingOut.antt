@@ -9,7 +9,7 @@ use lib.ListN.{length, getD}
 use borrow.Author.Tests.{eq-eqb, ltb-true, ne-eqb}
 use Rattle.std.specs.declared.option.Option.{Option}
 use Rattle.std.specs.declared.option.Option.the-variants.{Some, None}
-use Rattle.hello.specs.State.{greetingOf, helloOn, sentAs}
+use Rattle.hello.specs.State.{helloOn, sentAs}
 use Rattle.messages.specs.declared.values.Hello.{Hello}
 use Rattle.messages.specs.declared.values.Words.{Words}
 use Rattle.model.specs.Box.{tells}
@@ -18,7 +18,7 @@ use Rattle.linkmodel.specs.Station.{Greets, Item, Out, Shows, Sight, Station, T
 use Rattle.messages.specs.declared.values.Seens.{Seens}
 use Rattle.station.specs.Packets.{seensOf}
 use Rattle.station.specs.Hearing.{Showing, shownOn}
-use Rattle.station.specs.Ticking.{Carries, bundleOf, goesOut, greetingOn, greetingsIn, isTelling, noWords, packetOn, tellingsIn, toldOn, toldTo, wordsIn}
+use Rattle.station.specs.Ticking.{Carries, bundleOf, goesOut, greetingOn, greetingsIn, isTelling, noWords, packetOn, tellingsIn, toldOn, toldTo}
 use Rattle.station.proofs.Carrying.{told-to}
 use Rattle.station.proofs.LowestWire.{open-who, open-wire}
 

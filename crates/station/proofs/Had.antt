@@ -1,9 +1,9 @@
 -- What a box keeps as a fact, it has: both facts are about numbers and tests.
-use mathlib.Core.Path.{_≡_, refl, sym, ap, _∙_}
+use mathlib.Core.Path.{_≡_, refl, ap}
 use mathlib.Core.Bool.{Bool, true, false}
 use mathlib.Core.List.{List}
 use mathlib.Core.Logic.{∥∥₁-elim}
-use Prim.Native.Nat.{ℕ, zero, suc, _<_}
+use Prim.Native.Nat.{ℕ, suc, _<_}
 use native.Mathlib.Nat.{ℕ-set}
 use native.Mathlib.Omega.{arith}
 use lib.Dec.{ltb}
@@ -12,7 +12,7 @@ use borrow.Author.Tests.{ltb-true, lt-ltb}
 use Rattle.model.specs.Map.{Map, Hop, Nowhere, To, hop}
 use Rattle.ways.specs.Numbers.{hopOf}
 use Rattle.ways.specs.Table.{Found}
-use Rattle.linkmodel.specs.Links.{Links, Wire, Silent, Heard, Open}
+use Rattle.linkmodel.specs.Links.{Wire, Silent, Heard, Open}
 use Rattle.linkmodel.specs.Relinked.{Sound}
 use Rattle.linkmodel.specs.Station.{Station}
 use Rattle.linkmodel.specs.Calls.{Joined}

@@ -1,12 +1,11 @@
 -- A packet of seens, one after the other.
 use mathlib.Core.Path.{_≡_, refl, sym, ap, _∙_}
 use mathlib.Core.List.{List, [], _∷_}
-use Prim.Native.Nat.{ℕ, zero, suc, _+_, _-_, _<_, _≤_}
+use Prim.Native.Nat.{ℕ, suc, _+_, _-_, _<_, _≤_}
 use native.Mathlib.Omega.{arith}
 use lib.ListN.{length, getD, drop}
 use Rattle.messages.specs.declared.values.WordId.{WordId}
 use Rattle.model.specs.Box.{Box, mapIn, sees}
-use Rattle.model.specs.Words.{Entry}
 use Rattle.linkmodel.specs.Station.{Sight, Station, seesAll, withBox}
 use Rattle.linkmodel.specs.Calls.{Joined}
 use Rattle.station.specs.Packets.{firstIn, noId, sightsIn}

@@ -1,6 +1,6 @@
 -- A packet of words, one after the other.
 use mathlib.Core.Path.{_≡_, refl, sym, ap, _∙_, subst}
-use mathlib.Core.Bool.{Bool, true, false, cond, _&&_, _||_, not}
+use mathlib.Core.Bool.{Bool, true, false, cond, _||_, not}
 use mathlib.Core.List.{List, [], _∷_}
 use Prim.Native.Nat.{ℕ, zero, suc, _+_, _-_, _^_, _<_, _≤_}
 use native.Mathlib.Omega.{arith}
@@ -14,7 +14,7 @@ use Rattle.std.specs.declared.option.Option.{Option}
 use Rattle.std.specs.declared.option.Option.the-variants.{Some, None}
 use Rattle.messages.specs.declared.values.Word.{Word}
 use Rattle.messages.specs.declared.values.WordId.{WordId}
-use Rattle.model.specs.Box.{Box, has, isNewTo, ownWord, sees, takes}
+use Rattle.model.specs.Box.{Box, has, isNewTo, ownWord, takes}
 use Rattle.model.proofs.Tests.{of-cond}
 use Rattle.router.specs.State.{idRefusal}
 use Rattle.router.specs.declared.answers.Outcome.{Outcome}

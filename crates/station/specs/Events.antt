@@ -1,11 +1,10 @@
 -- Which events of the model each call is. Assumes nothing.
 use mathlib.Core.Path.{_≡_}
-use mathlib.Core.Bool.{Bool, true, false}
-use mathlib.Core.List.{List, [], _∷_, _++_}
+use mathlib.Core.Bool.{false}
+use mathlib.Core.List.{List, _++_}
 use Prim.Native.Nat.{ℕ}
 use lib.Dec.{T, eqb}
-use Rattle.std.specs.declared.option.Option.{Option}
-use Rattle.std.specs.declared.option.Option.the-variants.{Some, None}
+use Rattle.std.specs.declared.option.Option.the-variants.{Some}
 use Rattle.model.specs.Box.{Stands, sendings, tellings}
 use Rattle.model.specs.Boxes.{wordsOut, wordsTo}
 use Rattle.model.specs.Words.{Ev, isIn, world}

@@ -1,19 +1,16 @@
 -- Packets as the model has them, and why one is refused. Assumes nothing.
 use mathlib.Core.Path.{_≡_}
-use mathlib.Core.Bool.{Bool, true, false, cond, _&&_, _||_, not}
+use mathlib.Core.Bool.{Bool, false, cond, _||_, not}
 use mathlib.Core.List.{List, [], _∷_}
-use Prim.Native.Nat.{ℕ, zero, suc, _^_, _<_, _≤_}
+use Prim.Native.Nat.{ℕ, zero, suc, _^_}
 use lib.Dec.{eqb, ltb, leb}
 use Rattle.std.specs.declared.option.Option.{Option}
 use Rattle.std.specs.declared.option.Option.the-variants.{Some, None}
-use Rattle.messages.specs.Values.{entryOf}
 use Rattle.messages.specs.declared.values.Seens.{Seens}
-use Rattle.messages.specs.declared.values.Word.{Word}
 use Rattle.messages.specs.declared.values.WordId.{WordId}
-use Rattle.messages.specs.declared.values.Words.{Words}
-use Rattle.linkmodel.specs.Station.{Bundle, Item, Seens as Sights, Sight, Station as Whole, heardSeens, teller}
+use Rattle.linkmodel.specs.Station.{Seens as Sights, Sight, Station as Whole, heardSeens, teller}
 use Rattle.station.specs.declared.answers.Refusal.{Refusal}
-use Rattle.station.specs.declared.answers.Refusal.the-variants.{OutOfRange, NoRoad, OtherBox, CountSpent}
+use Rattle.station.specs.declared.answers.Refusal.the-variants.{OutOfRange, NoRoad, CountSpent}
 
 -- the numbers of no word
 abbrev pub noId : WordId

@@ -5,10 +5,10 @@ use Rattle.std.specs.declared.option.Option.{Option}
 use Rattle.std.specs.declared.option.Option.the-variants.{Some, None}
 use Rattle.std.specs.declared.result.Result.{Result}
 use Rattle.std.specs.declared.result.Result.the-variants.{Ok, Err}
-use Rattle.hello.specs.State.{fallRefusal, hearsRefusal, newRefusal, settingsRefusal, tickRefusal}
+use Rattle.hello.specs.State.{fallRefusal, hearsRefusal, newRefusal, settingsRefusal}
 use Rattle.hello.specs.declared.answers.Refusal.{Refusal as WireRefusal}
 use Rattle.hello.specs.declared.answers.Refusal.the-variants.{OutOfRange as NoSuch, OtherBox as Another, Spent}
-use Rattle.linkmodel.specs.Links.{Hello, Links}
+use Rattle.linkmodel.specs.Links.{Hello}
 use Rattle.linkmodel.specs.Station.{Station as Whole}
 use Rattle.messages.specs.declared.values.Settings.{Settings}
 use Rattle.station.specs.Parts.{partsOf}

@@ -12,6 +12,8 @@ mod seens;
 mod state;
 mod taking;
 mod tellings;
+#[cfg(test)]
+mod tests;
 mod ticking;
 
 pub use answers::Refusal;

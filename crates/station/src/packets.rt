@@ -3,7 +3,7 @@ use crate::answers::Refusal;
 use crate::state::Station;
 use hello::Links;
 use messages::WordId;
-ghost use Prim.Native.Nat.{ℕ, _≤_};
+ghost use Prim.Native.Nat.{_≤_};
 ghost use Rattle.hello.specs.State.{linksOf};
 ghost use Rattle.linkmodel.specs.Station.{teller};
 ghost use Rattle.station.specs.Packets.{anyIn, isOut, isSpent, packetRefusal};
@@ -47,11 +47,13 @@ fn teller(links: Links, wire: u8) -> Option<u8>
     ensures { λ r. ⌜ r ≡ teller wire (linksOf links) ⌝ }
 {
     match links.who(wire) {
-        Some(from) => if links.road(from) > 0 {
-            Some(from)
-        } else {
-            None
-        },
+        Some(from) => {
+            if links.road(from) > 0 {
+                Some(from)
+            } else {
+                None
+            }
+        }
         None => None,
     }
 }

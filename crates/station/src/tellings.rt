@@ -7,7 +7,6 @@ use router::Router;
 ghost use Prim.Native.Nat.{ℕ, _<_};
 ghost use Rattle.hello.specs.State.{linksOf};
 ghost use Rattle.linkmodel.specs.Station.{itemsOf, wireTo};
-ghost use Rattle.messages.specs.Values.{entryOf};
 ghost use Rattle.model.specs.Box.{tells};
 ghost use Rattle.router.specs.State.{boxOf};
 ghost use Rattle.station.specs.Parts.{partsOf};

@@ -1,15 +1,14 @@
 -- Each turn answers one word, if the box has it just so.
 use mathlib.Core.Path.{_≡_, refl, sym, ap, _∙_}
 use mathlib.Core.Bool.{Bool, true, false, cond}
-use mathlib.Core.List.{List, [], _∷_}
-use Prim.Native.Nat.{ℕ, _+_, _<_, _≤_}
+use mathlib.Core.List.{[], _∷_}
+use Prim.Native.Nat.{_+_, _<_, _≤_}
 use native.Mathlib.Omega.{arith}
 use lib.ListN.{length, getD, set}
 use borrow.Author.Needs.{needs}
-use Rattle.messages.specs.Values.{entryOf, sameId}
+use Rattle.messages.specs.Values.{sameId}
 use Rattle.messages.specs.declared.values.WordId.{WordId}
-use Rattle.model.specs.Code.{sameWord}
-use Rattle.linkmodel.specs.Station.{Sight, seensFor}
+use Rattle.linkmodel.specs.Station.{seensFor}
 use Rattle.router.specs.State.{boxOf}
 use Rattle.station.specs.Packets.{noId, sightOf}
 use Rattle.station.specs.Ticking.{wordsIn}

@@ -1,5 +1,5 @@
 -- The lowest wire is the model's.
-use mathlib.Core.Path.{_≡_, sym}
+use mathlib.Core.Path.{sym}
 use Rattle.std.specs.declared.option.Option.the-variants.{Some, None}
 use Rattle.hello.specs.State.{linksOf}
 use Rattle.station.proofs.LowestWire.{lowest-wire}

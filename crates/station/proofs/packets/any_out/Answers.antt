@@ -1,14 +1,13 @@
 -- Each turn looks at one.
 use mathlib.Core.Path.{_≡_, sym, _∙_, ap}
-use mathlib.Core.Bool.{Bool, true, false, _||_, not}
+use mathlib.Core.Bool.{Bool, true, _||_, not}
 use mathlib.Core.Logic.{inl, inr}
 use native.Mathlib.Omega.{arith}
-use lib.Dec.{eqb, ltb}
+use lib.Dec.{eqb}
 use lib.ListN.{length, getD}
 use borrow.Author.Needs.{needs}
 use borrow.Author.Tests.{eq-eqb, le-ltb, lt-ltb, ne-eqb}
-use Rattle.messages.specs.declared.values.WordId.{WordId}
-use Rattle.station.specs.Packets.{anyIn, isOut, noId}
+use Rattle.station.specs.Packets.{isOut, noId}
 use Rattle.station.proofs.Scans.{any-end, any-hit, any-miss}
 use Rattle.station.proofs.packets.any_out.Needs as need
 

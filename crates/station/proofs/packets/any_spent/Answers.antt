@@ -1,14 +1,12 @@
 -- Each turn looks at one.
 use mathlib.Core.Path.{_≡_, sym, _∙_}
 use mathlib.Core.Bool.{true, false}
-use Prim.Native.Nat.{_^_}
 use native.Mathlib.Omega.{arith}
 use lib.Dec.{leb}
 use lib.ListN.{length, getD}
 use borrow.Author.Needs.{needs}
 use Rattle.std.proofs.shelf.Ways.{tells}
-use Rattle.messages.specs.declared.values.WordId.{WordId}
-use Rattle.station.specs.Packets.{anyIn, isSpent, noId}
+use Rattle.station.specs.Packets.{isSpent, noId}
 use Rattle.station.proofs.Scans.{any-end, any-hit, any-miss}
 use Rattle.station.proofs.packets.any_spent.Needs as need
 

@@ -13,7 +13,7 @@ use Rattle.station.specs.Packets.{isOut, isSpent, noId}
 use Rattle.station.proofs.Admitted.{id-fits}
 use Rattle.station.proofs.Carrying.{four-blank}
 use Rattle.station.proofs.Scans.{none-here}
-use Rattle.station.proofs.TakingWords.{anyWord, heard-end, heard-more, heard-none, ids-at, ids-length, outcomes-end}
+use Rattle.station.proofs.TakingWords.{heard-end, heard-more, heard-none, ids-at, ids-length, outcomes-end}
 use Rattle.station.proofs.taking.hear_all.Needs as need
 
 pub loop-k-holds : need.loop-k-holds

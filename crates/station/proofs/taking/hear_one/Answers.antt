@@ -1,5 +1,5 @@
 -- What was taken changes no road.
-use mathlib.Core.Path.{_≡_, ap, _∙_}
+use mathlib.Core.Path.{ap, _∙_}
 use Rattle.model.specs.Box.{Box}
 use Rattle.router.specs.State.{boxOf, idRefusal}
 use Rattle.linkmodel.specs.Station.{takesItem}

@@ -6,13 +6,12 @@ use Prim.Native.Nat.{ℕ, _-_, _<_, _≤_}
 use native.Mathlib.Omega.{arith}
 use lib.Dec.{ltb}
 use lib.ListN.{length, getD, replicate}
-use borrow.Author.Needs.{needs}
 use Rattle.bits.proofs.Picks.{pick-at, pick-length}
 use Rattle.model.specs.Box.{tells}
 use Rattle.router.specs.State.{boxOf}
-use Rattle.linkmodel.specs.Station.{Item, itemsOf}
-use Rattle.station.specs.Ticking.{itemOf, noWord, wordsIn}
-use Rattle.station.proofs.Carrying.{at-padded, item-at, items-length, noItem, words-by}
+use Rattle.linkmodel.specs.Station.{itemsOf}
+use Rattle.station.specs.Ticking.{wordsIn}
+use Rattle.station.proofs.Carrying.{at-padded, item-at, items-length, words-by}
 use Rattle.station.proofs.tellings.telling_to.Needs as need
 
 pub word-of-requires : need.word-of-requires

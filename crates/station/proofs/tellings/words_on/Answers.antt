@@ -1,7 +1,6 @@
 -- Whom it heard there is told, if the wire is the lowest.
-use mathlib.Core.Path.{_≡_, refl, sym, ap, _∙_}
+use mathlib.Core.Path.{sym, ap, _∙_}
 use Prim.Native.Nat.{ℕ, _%_}
-use lib.Dec.{eqb}
 use borrow.Author.Tests.{eq-eqb}
 use Rattle.station.specs.Parts.{partsOf}
 use Rattle.station.proofs.Carrying.{carries-as, told-other, told-to}

@@ -1,5 +1,5 @@
 -- The wires fell, and the words are gone.
-use mathlib.Core.Path.{_≡_, sym, _∙_, subst}
+use mathlib.Core.Path.{sym, _∙_, subst}
 use mathlib.Core.List.{_∷_}
 use borrow.Author.Needs.{needs}
 use Rattle.model.specs.Words.{Falls}
@@ -7,7 +7,6 @@ use Rattle.linkmodel.specs.Links.{fell, relinks}
 use Rattle.linkmodel.proofs.Joins.{falls-so}
 use Rattle.linkmodel.specs.Calls.{Joined}
 use Rattle.linkmodel.specs.Station.{falls}
-use Rattle.station.specs.Parts.{partsOf}
 use Rattle.station.specs.State.{stationOf}
 use Rattle.station.proofs.Doing.{did-as}
 use Rattle.station.proofs.Had.{joined-had}

@@ -1,5 +1,5 @@
 -- The table is that of the words.
-use mathlib.Core.Path.{_≡_, _∙_}
+use mathlib.Core.Path.{_∙_}
 use native.Mathlib.Omega.{arith}
 use Rattle.model.specs.Box.{mapIn}
 use Rattle.router.specs.State.{boxOf}

@@ -1,7 +1,6 @@
 -- The wires stay sound.
-use mathlib.Core.Path.{_≡_, ap, _∙_}
+use mathlib.Core.Path.{ap, _∙_}
 use borrow.Author.Needs.{needs}
-use Rattle.messages.specs.Values.{at}
 use Rattle.hello.specs.State.{greetingOf, linksOf}
 use Rattle.linkmodel.specs.Hellos.{Hears}
 use Rattle.linkmodel.specs.Links.{Links, hearsHello, relinks}

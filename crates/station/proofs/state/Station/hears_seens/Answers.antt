@@ -3,13 +3,11 @@ use mathlib.Core.Path.{_≡_, refl, sym, ap, _∙_, subst}
 use mathlib.Core.Bool.{Bool, cond}
 use mathlib.Core.List.{[]}
 use Prim.Native.Nat.{ℕ}
-use lib.Dec.{eqb}
-use borrow.Author.Needs.{needs}
 use borrow.Author.Tests.{eq-eqb, ne-eqb}
 use Rattle.std.specs.declared.option.Option.{Option}
 use Rattle.model.specs.Box.{Box, mapIn}
 use Rattle.linkmodel.specs.Calls.{Joined}
-use Rattle.linkmodel.specs.Station.{Station, heardSeens, seesAll, teller, withBox}
+use Rattle.linkmodel.specs.Station.{heardSeens, seesAll, teller, withBox}
 use Rattle.station.specs.Packets.{seensFrom, seensOf}
 use Rattle.station.specs.State.{stationOf}
 use Rattle.linkmodel.proofs.Takings.{seens-so}

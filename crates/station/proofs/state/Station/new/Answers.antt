@@ -1,5 +1,5 @@
 -- No wire has a road at first.
-use mathlib.Core.Path.{_≡_, sym, subst}
+use mathlib.Core.Path.{sym, subst}
 use Rattle.linkmodel.specs.Calls.{Joined}
 use Rattle.linkmodel.specs.Station.{station}
 use Rattle.station.proofs.Joining.{joined-new, same-station}

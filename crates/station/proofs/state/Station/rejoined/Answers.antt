@@ -1,5 +1,5 @@
 -- The tables go by the words alone.
-use mathlib.Core.Path.{_≡_, sym, subst}
+use mathlib.Core.Path.{sym, subst}
 use Prim.Native.Nat.{ℕ}
 use Rattle.model.specs.Box.{mapIn}
 use Rattle.model.specs.Map.{Map}

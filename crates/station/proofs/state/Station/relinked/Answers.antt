@@ -1,12 +1,11 @@
 -- The roads are those of the new wires.
-use mathlib.Core.Path.{_≡_, refl, sym, ap, _∙_, subst}
+use mathlib.Core.Path.{refl, sym, ap, _∙_, subst}
 use Rattle.model.specs.Box.{Box, mapIn}
 use Rattle.bits.specs.Bits.{bit}
 use Rattle.messages.specs.Values.{at}
 use Rattle.hello.specs.State.{linksOf}
 use Rattle.linkmodel.specs.Calls.{Joined}
 use Rattle.linkmodel.specs.Station.{relinkAs}
-use Rattle.station.specs.Parts.{partsOf}
 use Rattle.station.specs.State.{stationOf}
 use Rattle.station.proofs.Had.{joined-had}
 use Rattle.station.proofs.Joining.{joined-relinked, relink-is, same-station}

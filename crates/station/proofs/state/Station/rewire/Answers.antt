@@ -1,5 +1,5 @@
 -- The wires stay sound.
-use mathlib.Core.Path.{_≡_, ap, _∙_}
+use mathlib.Core.Path.{ap, _∙_}
 use borrow.Author.Needs.{needs}
 use Rattle.messages.specs.Values.{at}
 use Rattle.hello.specs.State.{linksOf}

@@ -1,5 +1,5 @@
 -- What it says changes no road.
-use mathlib.Core.Path.{_≡_, refl, sym, subst}
+use mathlib.Core.Path.{sym, subst}
 use Rattle.model.specs.Box.{Box}
 use Rattle.linkmodel.specs.Calls.{Joined}
 use Rattle.linkmodel.specs.Station.{withBox}

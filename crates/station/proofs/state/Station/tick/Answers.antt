@@ -1,5 +1,5 @@
 -- What is too old is dropped, and then what is owed is said.
-use mathlib.Core.Path.{_≡_, refl, sym, ap, _∙_}
+use mathlib.Core.Path.{_≡_, ap, _∙_}
 use borrow.Author.Needs.{needs}
 use Rattle.hello.specs.State.{linksOf}
 use Rattle.linkmodel.specs.Hellos.{Passes}
