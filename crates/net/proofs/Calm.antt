@@ -10,11 +10,14 @@ use Rattle.messages.specs.Values.{sameId}
 use Rattle.messages.specs.declared.values.WordId.{WordId}
 use Rattle.model.specs.Box.{Box, ownSo, mustSay}
 use Rattle.model.specs.Code.{sameWord}
-use Rattle.model.specs.Promise.{allBelow, ownTrue}
+use Rattle.model.specs.Promise.{Rest, allBelow, ownTrue}
 use Rattle.model.specs.Settling.{atRest}
+use Rattle.model.specs.Words.{World}
+use Rattle.model.proofs.Resting.{rest-test}
+use Rattle.model.proofs.Tests.{t-true, true-t}
 use Rattle.router.specs.State.{boxOf}
 use Rattle.router.specs.declared.state.Router.{Router}
-use Rattle.net.specs.Nets.{boxIn, worldOf, Numbered, agreesWith, calmAt}
+use Rattle.net.specs.Nets.{boxIn, worldOf, Numbered, JustWhen, agreesWith, calmAt}
 use Rattle.net.proofs.Alls.{all-fails, all-same, box-at}
 
 -- the numbers of the word that a box has of i
@@ -58,3 +61,7 @@ pub rest-is : (ss : List Router) → Numbered ss → atRest (worldOf ss) ≡ all
 rest-is ss h =
     all-same (length ss) (λ a. ownTrue a (worldOf ss) && allBelow (length ss) (λ e. agreesWith (length ss) (boxIn ss a) a (boxIn ss e) e)) (calmAt ss)
     (λ a l. ap (λ b. b && allBelow (length ss) (λ e. agreesWith (length ss) (boxIn ss a) a (boxIn ss e) e)) (own-is (boxIn ss a) (length ss) a (h a l .0) (h a l .1)))
+
+-- an answer that is the test of rest is true just at rest
+pub rest-just : (w : World) (r : Bool) → r ≡ atRest w → JustWhen r (Rest w)
+rest-just w r e = (λ h. rest-test w .0 (true-t (atRest w) (sym e ∙ h)), λ rest. e ∙ t-true (atRest w) (rest-test w .1 rest))

@@ -60,3 +60,7 @@ abbrev pub Delivers : List Router → ℕ → ℕ → Route → Type 0
 Delivers ss u d r =
     (es : List Ev) → ((a : ℕ) → a < length ss → StandsAs (length ss) a (boxIn ss a) es) → Rest (world (length ss) es) →
     ((c : ℕ) → far (realMap (world (length ss) es)) d u ≡ At c → endOf r ≡ Arrived c) × (far (realMap (world (length ss) es)) d u ≡ Never → endOf r ≡ Refused u)
+
+-- the answer is true just when this holds
+abbrev pub JustWhen : Bool → Type 0 → Type 0
+JustWhen r P = (r ≡ true → P) × (P → r ≡ true)

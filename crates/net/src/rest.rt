@@ -1,9 +1,9 @@
 // Whether a net of boxes is at rest.
 use router::Router;
 ghost use Prim.Native.Nat.{_<_, _≤_};
-ghost use Rattle.model.specs.Promise.{allBelow};
+ghost use Rattle.model.specs.Promise.{Rest, allBelow};
 ghost use Rattle.model.specs.Settling.{atRest};
-ghost use Rattle.net.specs.Nets.{Numbered, agreesWith, alikeBelow, boxIn, calmAt, worldOf};
+ghost use Rattle.net.specs.Nets.{JustWhen, Numbered, agreesWith, alikeBelow, boxIn, calmAt, worldOf};
 ghost use Rattle.router.specs.State.{boxOf};
 ghost use lib.ListN.{length};
 ghost use mathlib.Core.Path.{_≡_};
@@ -52,7 +52,8 @@ fn calm(boxes: &[Router], a: u8) -> bool
 
 // Whether these boxes are at rest: whatever has been said is so, and whoever share a road have the same word of every box.
 pub fn at_rest(boxes: &[Router]) -> bool
-    ensures { λ r. ⌜ (length (now (boxes .entry)) ≤ 64 → Numbered (now (boxes .entry)) → r ≡ atRest (worldOf (now (boxes .entry)))) ⌝ }
+    ensures test { λ r. ⌜ (length (now (boxes .entry)) ≤ 64 → Numbered (now (boxes .entry)) → r ≡ atRest (worldOf (now (boxes .entry)))) ⌝ }
+    ensures rest { λ r. ⌜ (length (now (boxes .entry)) ≤ 64 → Numbered (now (boxes .entry)) → JustWhen r (Rest (worldOf (now (boxes .entry))))) ⌝ }
 {
     if boxes.len() > 64 {
         return false;
