@@ -8,7 +8,7 @@ use native.Mathlib.Omega.{arith}
 use native.Mathlib.Numerals.{add-one}
 use lib.Dec.{eqb}
 use lib.ListN.{length, getD}
-use Rattle.std.proofs.shelf.Tests.{and-from, and-left, and-right, cases-eq}
+use Rattle.std.proofs.shelf.Tests.{and-from, and-left, and-right, both-ways, cases-bool, cases-eq}
 use Rattle.model.specs.Promise.{allBelow}
 use Rattle.router.specs.State.{boxOf}
 use Rattle.router.specs.declared.state.Router.{Router}
@@ -43,3 +43,7 @@ pub all-same : (n : ℕ) (f g : ℕ → Bool) → ((i : ℕ) → i < n → f i �
 unfolding allBelow
 all-same zero f g h = refl
 all-same (suc n) f g h = λ k. h n (omega arith) k && all-same n f g (λ i l. h i (omega arith)) k
+
+-- each of all
+pub all-at : (n i : ℕ) (f : ℕ → Bool) → i < n → allBelow n f ≡ true → f i ≡ true
+all-at n i f l h = elim (cases-bool (f i)) [ inl p ↦ p | inr p ↦ absurd (both-ways (allBelow n f) (all-fails n i f l p) h) ]

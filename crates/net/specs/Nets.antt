@@ -41,9 +41,13 @@ alikeBelow n x y = allBelow n (λ i. sameWord (x .word i) (y .word i))
 abbrev pub agreesWith : ℕ → Box → ℕ → Box → ℕ → Bool
 agreesWith n x a y e = (not (ltb 0 (x .cost e)) || ltb 0 (y .cost a)) && (not (ltb 0 (x .cost e) && ltb 0 (y .cost a)) || alikeBelow n x y)
 
--- what box a has said of itself is so, and it agrees with every box
+-- the box at place a has this number and knows how many there are
+abbrev pub isPlaced : List Router → ℕ → Bool
+isPlaced ss a = eqb (boxIn ss a .n) (length ss) && eqb (boxIn ss a .me) a
+
+-- what it has said of itself is so, and it agrees with every box
 abbrev pub calmAt : List Router → ℕ → Bool
-calmAt ss a = not (mustSay (boxIn ss a)) && allBelow (length ss) (λ e. agreesWith (length ss) (boxIn ss a) a (boxIn ss e) e)
+calmAt ss a = isPlaced ss a && (not (mustSay (boxIn ss a)) && allBelow (length ss) (λ e. agreesWith (length ss) (boxIn ss a) a (boxIn ss e) e))
 
 -- how a packet ends, as the model has it
 abbrev pub endAt : Ending → ℕ → End
@@ -60,7 +64,3 @@ abbrev pub Delivers : List Router → ℕ → ℕ → Route → Type 0
 Delivers ss u d r =
     (es : List Ev) → ((a : ℕ) → a < length ss → StandsAs (length ss) a (boxIn ss a) es) → Rest (world (length ss) es) →
     ((c : ℕ) → far (realMap (world (length ss) es)) d u ≡ At c → endOf r ≡ Arrived c) × (far (realMap (world (length ss) es)) d u ≡ Never → endOf r ≡ Refused u)
-
--- the answer is true just when this holds
-abbrev pub JustWhen : Bool → Type 0 → Type 0
-JustWhen r P = (r ≡ true → P) × (P → r ≡ true)

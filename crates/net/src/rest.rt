@@ -2,10 +2,10 @@
 use router::Router;
 ghost use Prim.Native.Nat.{_<_, _≤_};
 ghost use Rattle.model.specs.Promise.{Rest, allBelow};
-ghost use Rattle.model.specs.Settling.{atRest};
-ghost use Rattle.net.specs.Nets.{JustWhen, Numbered, agreesWith, alikeBelow, boxIn, calmAt, worldOf};
+ghost use Rattle.net.specs.Nets.{Numbered, agreesWith, alikeBelow, boxIn, calmAt, worldOf};
 ghost use Rattle.router.specs.State.{boxOf};
 ghost use lib.ListN.{length};
+ghost use mathlib.Core.Bool.{true};
 ghost use mathlib.Core.Path.{_≡_};
 
 // Whether two boxes have the same word of every box below `n`.
@@ -32,16 +32,22 @@ fn agree(n: u8, one: Router, a: u8, other: Router, e: u8) -> bool
     !there || alike(n, one, other)
 }
 
-// Whether what a box has said of itself is so, and it agrees with every other.
+// Whether a box knows how many there are and which it is, what it has said of itself is so, and it agrees with every other.
 fn calm(boxes: &[Router], a: u8) -> bool
     requires { ⌜ a < length (now boxes) ⌝ ∗ ⌜ length (now boxes) ≤ 64 ⌝ }
     ensures { λ r. ⌜ r ≡ calmAt (now (boxes .entry)) a ⌝ }
 {
     let one = boxes[a as usize];
+    let n = boxes.len() as u8;
+    if one.boxes() != n {
+        return false;
+    }
+    if one.box_number() != a {
+        return false;
+    }
     if one.owes() {
         return false;
     }
-    let n = boxes.len() as u8;
     for e in 0..n {
         if !agree(n, one, a, boxes[e as usize], e) {
             return false;
@@ -50,10 +56,11 @@ fn calm(boxes: &[Router], a: u8) -> bool
     true
 }
 
-// Whether these boxes are at rest: whatever has been said is so, and whoever share a road have the same word of every box.
+// Whether these boxes, each with its place as its number, are at rest: whatever has been said is so, and whoever share a road have the same word of every box.
 pub fn at_rest(boxes: &[Router]) -> bool
-    ensures test { λ r. ⌜ (length (now (boxes .entry)) ≤ 64 → Numbered (now (boxes .entry)) → r ≡ atRest (worldOf (now (boxes .entry)))) ⌝ }
-    ensures rest { λ r. ⌜ (length (now (boxes .entry)) ≤ 64 → Numbered (now (boxes .entry)) → JustWhen r (Rest (worldOf (now (boxes .entry))))) ⌝ }
+    ensures test { λ r. ⌜ (length (now (boxes .entry)) ≤ 64 → r ≡ allBelow (length (now (boxes .entry))) (calmAt (now (boxes .entry)))) ⌝ }
+    ensures sound { λ r. ⌜ (r ≡ true → Numbered (now (boxes .entry)) × Rest (worldOf (now (boxes .entry)))) ⌝ }
+    ensures complete { λ r. ⌜ (length (now (boxes .entry)) ≤ 64 → Numbered (now (boxes .entry)) → Rest (worldOf (now (boxes .entry))) → r ≡ true) ⌝ }
 {
     if boxes.len() > 64 {
         return false;

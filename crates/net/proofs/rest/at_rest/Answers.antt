@@ -1,13 +1,13 @@
-use mathlib.Core.Path.{_≡_, sym, _∙_, subst}
 use mathlib.Core.Bool.{true, false}
+use mathlib.Core.Path.{_≡_, refl, sym, subst}
 use Prim.Native.Nat.{ℕ}
 use native.Mathlib.Omega.{arith}
 use lib.ListN.{length}
+use borrow.Author.Tests.{both-ways, clash}
 use Rattle.model.specs.Promise.{allBelow}
-use Rattle.model.specs.Settling.{atRest}
-use Rattle.net.specs.Nets.{Numbered, calmAt, worldOf}
+use Rattle.net.specs.Nets.{calmAt}
 use Rattle.net.proofs.Alls.{all-none, all-more, all-fails}
-use Rattle.net.proofs.Calm.{rest-is, rest-just}
+use Rattle.net.proofs.Calm.{rest-sound, rest-complete}
 use Rattle.net.proofs.rest.at_rest.Needs as need
 
 pub loop-a-holds : need.loop-a-holds
@@ -15,9 +15,12 @@ loop-a-holds c = all-none _
 
 pub returns-then-not-calm : need.returns-then-not-calm
 returns-then-not-calm c =
-    let is : Numbered (c .args .boxes .now) → false ≡ atRest (worldOf (c .args .boxes .now)) =
-    λ h. sym (rest-is (c .args .boxes .now) h ∙ all-fails (length (c .args .boxes .now)) (c .loop-a .a) (calmAt (c .args .boxes .now)) (c .loop-a-test .taken) (sym (c .if-not-calm .ensures tt))) in
-    record { test = λ few h. is h; rest = λ few h. rest-just (worldOf (c .args .boxes .now)) false (is h) }
+    let fails = all-fails (length (c .args .boxes .now)) (c .loop-a .a) (calmAt (c .args .boxes .now)) (c .loop-a-test .taken) (sym (c .if-not-calm .ensures tt)) in
+    record {
+      test = λ few. sym fails;
+      sound = λ t. absurd (clash t);
+      complete = λ few num rest. absurd (both-ways (allBelow (length (c .args .boxes .now)) (calmAt (c .args .boxes .now))) fails (rest-complete (c .args .boxes .now) num rest));
+    }
 
 pub loop-a-again : need.loop-a-again
 loop-a-again c = all-more (c .loop-a .a) _ (c .loop-a .inv) (sym (c .if-not-calm .ensures tt))
@@ -26,5 +29,5 @@ pub returns : need.returns
 returns c =
     let end : c .loop-a .a ≡ length (c .args .boxes .now) = omega arith in
     let P : ℕ → Type 0 = λ n. allBelow n (calmAt (c .args .boxes .now)) ≡ true in
-    let is : Numbered (c .args .boxes .now) → true ≡ atRest (worldOf (c .args .boxes .now)) = λ h. sym (rest-is (c .args .boxes .now) h ∙ subst P end (c .loop-a .inv)) in
-    record { test = λ few h. is h; rest = λ few h. rest-just (worldOf (c .args .boxes .now)) true (is h) }
+    let all = subst P end (c .loop-a .inv) in
+    record { test = λ few. sym all; sound = λ t. rest-sound (c .args .boxes .now) all; complete = λ few num rest. refl }
