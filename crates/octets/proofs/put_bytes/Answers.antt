@@ -9,8 +9,8 @@ loop-b-init c = (written_none c.args.at c.args.out.now, omega arith)
 
 pub loop-b-preserved : goal.loop-b-preserved
 loop-b-preserved c =
-    let w = then_byte (get_or c.args.bytes.now c.loop-b.b-index 0) c.loop-b.invariant.0 (omega arith) c.put-byte-next.ensures.wrote c.put-byte-next.ensures.next in
-    (written_as (sym (take_more c.args.bytes.now c.loop-b.b-index 0 (omega arith))) w, omega (arith, c.put-byte-next.ensures.next))
+    let w = then_byte (get_or c.args.bytes.now c.loop-b.b-index 0) c.loop-b.invariant.0 (omega arith) c.put_byte-next.ensures.wrote c.put_byte-next.ensures.next in
+    (written_as (sym (take_more c.args.bytes.now c.loop-b.b-index 0 (omega arith))) w, omega (arith, c.put_byte-next.ensures.next))
 
 pub returns : goal.returns
 returns c =

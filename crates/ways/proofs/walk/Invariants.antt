@@ -3,4 +3,4 @@ use Rattle.ways.proofs.Keeps.{Walking}
 use Rattle.ways.proofs.walk.Given as goal
 
 abbrev pub invariant-near : goal.invariant-near
-invariant-near l = Walking l.n l.me l.costs l.dist l.edge l.next l.-turn
+invariant-near l = Walking l.n l.me l.costs l.dist l.edge l.next l._turn

@@ -7,7 +7,7 @@ use Rattle.chart.specs.declared.held.Held.{Held}
 use Rattle.chart.specs.Holding.{Newest, goes_before}
 use Rattle.chart.proofs.Ranking.{newest_of}
 use Rattle.chart.proofs.held.newest.Goals as goal
-use Rattle.chart.proofs.held.newest.Goals.{then-goes-before, else-goes-before}
+use Rattle.chart.proofs.held.newest.Goals.{then-goes_before, else-goes_before}
 
 pub loop-held-preserved : goal.loop-held-preserved
 loop-held-preserved c =
@@ -16,9 +16,9 @@ loop-held-preserved c =
     let x = get_or xs i (record { by = 0; word = record { about = 0; count = 0; tag = 0 } }) in
     let in-it : i < length xs = c.loop-held-test.true in
     let read = get_or_default xs i _ x in-it in
-    elim c.if-goes-before.branch [
-      | then-goes-before w ↦ w.best-is ∙ best_of_takes goes_before c.args.first xs i x c.loop-held.best in-it read c.loop-held.invariant (sym w.if-goes-before.ensures)
-      | else-goes-before w ↦ w.best-is ∙ best_of_keeps goes_before c.args.first xs i x c.loop-held.best in-it read c.loop-held.invariant (sym w.if-goes-before.ensures)
+    elim c.if-goes_before.branch [
+      | then-goes_before w ↦ w.best-is ∙ best_of_takes goes_before c.args.first xs i x c.loop-held.best in-it read c.loop-held.invariant (sym w.if-goes_before.ensures)
+      | else-goes_before w ↦ w.best-is ∙ best_of_keeps goes_before c.args.first xs i x c.loop-held.best in-it read c.loop-held.invariant (sym w.if-goes_before.ensures)
     ]
 
 pub returns : goal.returns

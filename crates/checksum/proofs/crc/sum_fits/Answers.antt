@@ -18,9 +18,9 @@ pub returns : goal.returns
 returns c =
     record {
       fits =
-          fits_decides c.args.frame.now c.split-at.result.0.now c.split-at.result.1.now c.crc.result c.to-le-bytes.result c.eq.result
-          c.split-at.ensures.front c.split-at.ensures.back c.crc.ensures.value c.to-le-bytes.ensures
-          (slice_eq-Decides Decides-eqb c.split-at.result.1.now c.to-le-bytes.result c.eq.result c.eq.ensures);
+          fits_decides c.args.frame.now c.split_at.result.0.now c.split_at.result.1.now c.crc.result c.to_le_bytes.result c.eq.result
+          c.split_at.ensures.front c.split_at.ensures.back c.crc.ensures.value c.to_le_bytes.ensures
+          (slice_eq-Decides Decides-eqb c.split_at.result.1.now c.to_le_bytes.result c.eq.result c.eq.ensures);
       one_byte = one_byte_changed_lem;
       run = run_caught_lem;
     }

@@ -24,7 +24,7 @@ all sum old new r hs ho h e =
 
 pub returns : goal.returns
 returns c =
-    let e : 65535 - c.ones-add-2.result ≡ mended_sum c.args.sum c.args.old c.args.new
-    = ap (λ (x : ℕ). 65535 - x) (c.ones-add-2.ensures ∙ ap (λ (x : ℕ). ones_add x c.args.new) c.ones-add.ensures) in
-    let a = all c.args.sum c.args.old c.args.new (65535 - c.ones-add-2.result) (omega arith) (omega arith) (omega arith) e in
+    let e : 65535 - c.ones_add-2.result ≡ mended_sum c.args.sum c.args.old c.args.new
+    = ap (λ (x : ℕ). 65535 - x) (c.ones_add-2.ensures ∙ ap (λ (x : ℕ). ones_add x c.args.new) c.ones_add.ensures) in
+    let a = all c.args.sum c.args.old c.args.new (65535 - c.ones_add-2.result) (omega arith) (omega arith) (omega arith) e in
     record { value = a.value; fits = a.fits; anew = a.anew; ttl = a.ttl; ones = a.ones }

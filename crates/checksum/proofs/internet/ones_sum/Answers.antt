@@ -17,16 +17,16 @@ loop-i-preserved c =
     let n : c.loop-i.i + 65536 - c.loop-i.i ≡ 65536 = omega arith in (
       omega arith,
       omega arith,
-      left_piece c.args.bytes.now c.loop-i.i 65536 c.loop-i.sum c.plain-sum.result c.fold-sum.result refl
-          (c.plain-sum.ensures.value ∙ ap (λ (k : ℕ). total (take k (drop c.loop-i.i c.args.bytes.now))) n)
-          (subst (λ (r : ℕ). Leaves (c.loop-i.sum + c.plain-sum.result) r) (sym c.fold-sum.ensures)
-          (leaves_fold (c.loop-i.sum + c.plain-sum.result)))
+      left_piece c.args.bytes.now c.loop-i.i 65536 c.loop-i.sum c.plain_sum.result c.fold-sum.result refl
+          (c.plain_sum.ensures.value ∙ ap (λ (k : ℕ). total (take k (drop c.loop-i.i c.args.bytes.now))) n)
+          (subst (λ (r : ℕ). Leaves (c.loop-i.sum + c.plain_sum.result) r) (sym c.fold-sum.ensures)
+          (leaves_fold (c.loop-i.sum + c.plain_sum.result)))
           c.loop-i.invariant.2,
     )
 
 pub returns : goal.returns
 returns c =
-    left_end c.args.bytes.now c.loop-i.i c.loop-i.sum c.plain-sum-2.result c.folded.result
+    left_end c.args.bytes.now c.loop-i.i c.loop-i.sum c.plain_sum-2.result c.folded.result
     (λ k. (c.type-inv.bytes k).fits)
-    (c.plain-sum-2.ensures.value ∙ ap total (take_rest c.args.bytes.now c.loop-i.i))
+    (c.plain_sum-2.ensures.value ∙ ap total (take_rest c.args.bytes.now c.loop-i.i))
     c.loop-i.invariant.2 c.folded.ensures c.folded.type-inv

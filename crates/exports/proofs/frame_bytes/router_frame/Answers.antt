@@ -8,8 +8,8 @@ pub returns-in-Ok : goal.returns-in-Ok
 returns-in-Ok c =
     let few : leb c.args.n 64 ≡ true = le-leb _ _ (omega arith) in
     let e = c.in-Ok.ensures in
-    let w = wrote_again _ c.args.out.now c.write-frame.new.out _ (omega arith) c.write-frame.ensures in
+    let w = wrote_again _ c.args.out.now c.write_frame.new.out _ (omega arith) c.write_frame.ensures in
     record {
       verdict = rw few (ap verdict_of (sym e.reads));
-      wrote = subst (λ b. c.write-frame.new.out ≡ again true b c.args.out.now) (sym e.only.0) w;
+      wrote = subst (λ b. c.write_frame.new.out ≡ again true b c.args.out.now) (sym e.only.0) w;
     }

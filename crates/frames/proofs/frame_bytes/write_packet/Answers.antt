@@ -8,8 +8,8 @@ use Rattle.frames.proofs.frame_bytes.write_packet.Goals as goal
 
 pub returns : goal.returns
 returns c =
-    let w1 = then_byte 4 (written_none 0 c.args.out.now) (omega arith) c.put-byte-at.ensures.wrote c.put-byte-at.ensures.next in
-    let w2 = then_bytes c.args.bytes.now w1 (omega arith) c.put-bytes.ensures.wrote c.put-bytes.ensures.next in
+    let w1 = then_byte 4 (written_none 0 c.args.out.now) (omega arith) c.put_byte-at.ensures.wrote c.put_byte-at.ensures.next in
+    let w2 = then_bytes c.args.bytes.now w1 (omega arith) c.put_bytes.ensures.wrote c.put_bytes.ensures.next in
     record {
       wrote = (w2.place ∙ zero-add _, w2.is);
       again = λ n few r. ap (frame_in n) (front_put _ (bytes_of_frame (a_packet c.args.bytes.now)) c.args.out.now _ (w2.place ∙ zero-add _) w2.is) ∙ frame_again_lem n few (a_packet c.args.bytes.now) r;

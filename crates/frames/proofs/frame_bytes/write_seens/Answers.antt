@@ -3,4 +3,4 @@ use Rattle.frames.proofs.Lines.{wrote_again}
 use Rattle.frames.proofs.frame_bytes.write_seens.Goals as goal
 
 pub returns : goal.returns
-returns c = record { wrote = c.put-seens.ensures; again = wrote_again (some_seen c.args.seens) c.args.out.now c.put-seens.new.out c.put-seens.result c.put-seens.ensures }
+returns c = record { wrote = c.put_seens.ensures; again = wrote_again (some_seen c.args.seens) c.args.out.now c.put_seens.new.out c.put_seens.result c.put_seens.ensures }

@@ -11,10 +11,10 @@ returns-then-out-lt18 c = record { wrote = (simp (length-append, length_octets) 
 
 pub returns : goal.returns
 returns c =
-    let w1 = then_byte 1 (written_none 0 c.args.out.now) (omega arith) c.put-byte-at.ensures.wrote c.put-byte-at.ensures.next in
-    let w2 = then_byte c.args.hello.from w1 (omega arith) c.put-byte-at-2.ensures.wrote c.put-byte-at-2.ensures.next in
-    let w3 = then_number 8 c.args.hello.drawn w2 (omega arith) c.put-number-at.ensures.wrote c.put-number-at.ensures.next in
-    let w4 = then_number 8 c.args.hello.heard w3 (omega arith) c.put-number-at-2.ensures.wrote c.put-number-at-2.ensures.next in
+    let w1 = then_byte 1 (written_none 0 c.args.out.now) (omega arith) c.put_byte-at.ensures.wrote c.put_byte-at.ensures.next in
+    let w2 = then_byte c.args.hello.from w1 (omega arith) c.put_byte-at-2.ensures.wrote c.put_byte-at-2.ensures.next in
+    let w3 = then_number 8 c.args.hello.drawn w2 (omega arith) c.put_number-at.ensures.wrote c.put_number-at.ensures.next in
+    let w4 = then_number 8 c.args.hello.heard w3 (omega arith) c.put_number-at-2.ensures.wrote c.put_number-at-2.ensures.next in
     record {
       wrote = (w4.place ∙ zero-add _, w4.is);
       again = λ n few r. ap (frame_in n) (front_put _ (bytes_of_frame (a_hello c.args.hello)) c.args.out.now _ (w4.place ∙ zero-add _) w4.is) ∙ frame_again_lem n few (a_hello c.args.hello) r;

@@ -12,9 +12,9 @@ loop-i-init c = (written_none c.args.at c.args.out.now, omega arith)
 pub loop-i-preserved : goal.loop-i-preserved
 loop-i-preserved c =
     let v : c.from.result ≡ get_or c.args.costs c.loop-i.i 0 = c.from.ensures in
-    let w = then_number 2 c.from.result c.loop-i.invariant.0 (omega arith) c.put-number-next.ensures.wrote c.put-number-next.ensures.next in
+    let w = then_number 2 c.from.result c.loop-i.invariant.0 (omega arith) c.put_number-next.ensures.wrote c.put_number-next.ensures.next in
     let e = ap (λ x. bytes_of_wires (take c.loop-i.i c.args.costs) ++ octets 2 x) v ∙ joined_next (octets 2) c.args.costs c.loop-i.i 0 (omega arith) in
-    (subst (λ bytes. Written c.args.at bytes c.args.out.now c.put-number-next.new.out c.put-number-next.result) e w, omega (arith, c.put-number-next.ensures.next))
+    (subst (λ bytes. Written c.args.at bytes c.args.out.now c.put_number-next.new.out c.put_number-next.result) e w, omega (arith, c.put_number-next.ensures.next))
 
 pub returns : goal.returns
 returns c =

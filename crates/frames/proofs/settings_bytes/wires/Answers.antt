@@ -8,17 +8,17 @@ use Rattle.frames.proofs.settings_bytes.wires.Goals as goal
 pub loop-i-init : goal.loop-i-init
 loop-i-init c = (many_none (number 2) c.args.reader.now.left.now, refl)
 
-pub returns-in-err-cost : goal.returns-in-err-cost
-returns-in-err-cost c =
-    let p = err_from_is_err_and c.from-residual.result c.from-residual.ensures.1 in
+pub returns-in_err-cost : goal.returns-in_err-cost
+returns-in_err-cost c =
+    let p = err_from_is_err_and c.from_residual.result c.from_residual.ensures.1 in
     rw (p.1, p.2)
-    (many_stops (number 2) c.args.reader.now.left.now _ 8 c.loop-i.i _ _ c.loop-i.invariant.0 c.in-err-cost.ensures.reads (omega arith))
+    (many_stops (number 2) c.args.reader.now.left.now _ 8 c.loop-i.i _ _ c.loop-i.invariant.0 c.in_err-cost.ensures.reads (omega arith))
 
 pub loop-i-preserved : goal.loop-i-preserved
 loop-i-preserved c =
     let l = c.loop-i.invariant.1 in (
-      rw (take_more_set c.loop-i.costs c.loop-i.i c.in-ok-cost.cost (omega arith))
-          (many_more (number 2) c.args.reader.now.left.now c.loop-i.i _ _ _ _ c.loop-i.invariant.0 c.in-ok-cost.ensures.reads),
+      rw (take_more_set c.loop-i.costs c.loop-i.i c.in_ok-cost.cost (omega arith))
+          (many_more (number 2) c.args.reader.now.left.now c.loop-i.i _ _ _ _ c.loop-i.invariant.0 c.in_ok-cost.ensures.reads),
       length-set _ _ _ ∙ l,
     )
 

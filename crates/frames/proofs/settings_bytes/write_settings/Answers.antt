@@ -14,11 +14,11 @@ returns-then-out-lt19 c =
 pub returns : goal.returns
 returns c =
     let l : length c.args.settings.costs ≡ 8 = omega arith in
-    let w1 = then_byte 6 (written_none 0 c.args.out.now) (omega arith) c.put-byte-at.ensures.wrote c.put-byte-at.ensures.next in
-    let w2 = then_byte c.args.settings.boxes w1 (omega arith) c.put-byte-at-2.ensures.wrote c.put-byte-at-2.ensures.next in
-    let w3 = then_byte c.args.settings.me w2 (omega arith) c.put-byte-at-3.ensures.wrote c.put-byte-at-3.ensures.next in
-    let n : c.put-wires.result ≡ c.put-byte-at-3.result + length (bytes_of_wires c.args.settings.costs) = omega (arith, length_wires c.args.settings.costs, c.put-wires.ensures.next) in
-    let w4 = then_bytes (bytes_of_wires c.args.settings.costs) w3 (omega arith) c.put-wires.ensures.wrote n in
+    let w1 = then_byte 6 (written_none 0 c.args.out.now) (omega arith) c.put_byte-at.ensures.wrote c.put_byte-at.ensures.next in
+    let w2 = then_byte c.args.settings.boxes w1 (omega arith) c.put_byte-at-2.ensures.wrote c.put_byte-at-2.ensures.next in
+    let w3 = then_byte c.args.settings.me w2 (omega arith) c.put_byte-at-3.ensures.wrote c.put_byte-at-3.ensures.next in
+    let n : c.put_wires.result ≡ c.put_byte-at-3.result + length (bytes_of_wires c.args.settings.costs) = omega (arith, length_wires c.args.settings.costs, c.put_wires.ensures.next) in
+    let w4 = then_bytes (bytes_of_wires c.args.settings.costs) w3 (omega arith) c.put_wires.ensures.wrote n in
     record {
       wrote = (w4.place ∙ zero-add _, w4.is);
       again = λ r. ap (λ bytes. value_in (settings_in bytes)) (front_put _ (bytes_of_settings c.args.settings) c.args.out.now _ (w4.place ∙ zero-add _) w4.is) ∙ settings_again_lem c.args.settings r;

@@ -11,8 +11,8 @@ loop-w-init c =
 
 pub loop-w-preserved : goal.loop-w-preserved
 loop-w-preserved c = (
-  length-set c.loop-w.left c.loop-w.w c.closed-to.result ∙ c.loop-w.invariant.0,
-  steps_more (λ w. closed_to c.args.e) c.loop-w.w c.loop-w.left c.args.wires c.closed-to.result c.loop-w.invariant.0 c.loop-w-test.true c.loop-w.invariant.1 c.closed-to.ensures,
+  length-set c.loop-w.left c.loop-w.w c.closed_to.result ∙ c.loop-w.invariant.0,
+  steps_more (λ w. closed_to c.args.e) c.loop-w.w c.loop-w.left c.args.wires c.closed_to.result c.loop-w.invariant.0 c.loop-w-test.true c.loop-w.invariant.1 c.closed_to.ensures,
 )
 
 pub returns : goal.returns

@@ -12,7 +12,7 @@ loop-noted-init c = going_none c.args.until c.args.bytes.now _ c.begun-notes.ens
 pub loop-noted-preserved : goal.loop-noted-preserved
 loop-noted-preserved c =
     let k = known_by c.loop-noted.notes in
-    let m = known_by c.note-line.new.self in
+    let m = known_by c.note_line.new.self in
     let bytes = c.args.bytes.now in
     let t = as_line c.args.until bytes c.loop-noted.place k m c.in-Ok.noted (Some c.in-Some.long) c.in-Some.is c.in-Ok.ensures in
     going_more c.args.until bytes c.loop-noted.place c.in-Some.long k m c.loop-noted.invariant t
@@ -20,7 +20,7 @@ loop-noted-preserved c =
 pub returns-in-None : goal.returns-in-None
 returns-in-None c =
     let k = known_by c.loop-noted.notes in
-    let m = known_by c.note-line.new.self in
+    let m = known_by c.note_line.new.self in
     let bytes = c.args.bytes.now in
     let e = going_stops c.args.until bytes c.loop-noted.place k m c.loop-noted.invariant (as_line c.args.until bytes c.loop-noted.place k m c.in-Ok.noted None c.in-None.is c.in-Ok.ensures) in
     record {
@@ -37,7 +37,7 @@ returns-in-None c =
 pub returns-in-Err : goal.returns-in-Err
 returns-in-Err c =
     let k = known_by c.loop-noted.notes in
-    let m = known_by c.note-line.new.self in
+    let m = known_by c.note_line.new.self in
     let bytes = c.args.bytes.now in
     let e = going_faulty c.args.until bytes c.loop-noted.place k m c.in-Err.fault c.loop-noted.invariant (as_left c.args.until bytes c.loop-noted.place k m (Err c.in-Err.fault) c.in-Err.ensures) in
     record {

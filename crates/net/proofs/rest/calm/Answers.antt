@@ -10,10 +10,10 @@ returns-then-boxes-n c =
     let one = box_read c.args.boxes.now c.args.a c.index-boxes-a.result c.requires.0 c.index-boxes-a.is in
     sym (calm_misplaced c.args.boxes.now c.args.a c.index-boxes-a.result one (inl (λ e. c.if-boxes-n.true (c.boxes.ensures ∙ e))))
 
-pub returns-then-box-number-a : goal.returns-then-box-number-a
-returns-then-box-number-a c =
+pub returns-then-box_number-a : goal.returns-then-box_number-a
+returns-then-box_number-a c =
     let one = box_read c.args.boxes.now c.args.a c.index-boxes-a.result c.requires.0 c.index-boxes-a.is in
-    sym (calm_misplaced c.args.boxes.now c.args.a c.index-boxes-a.result one (inr (λ e. c.if-box-number-a.true (c.box-number.ensures ∙ e))))
+    sym (calm_misplaced c.args.boxes.now c.args.a c.index-boxes-a.result one (inr (λ e. c.if-box_number-a.true (c.box_number.ensures ∙ e))))
 
 pub returns-then-owes : goal.returns-then-owes
 returns-then-owes c =
@@ -41,5 +41,5 @@ returns c =
     let one = box_read c.args.boxes.now c.args.a c.index-boxes-a.result c.requires.0 c.index-boxes-a.is in
     let end : c.loop-e.e ≡ length c.args.boxes.now = omega arith in
     let P : ℕ → Type 0 = λ n. all_below n (λ e. agrees_with (length c.args.boxes.now) (box_in c.args.boxes.now c.args.a) c.args.a (box_in c.args.boxes.now e) e) ≡ true in
-    let place = placed c.args.boxes.now c.args.a c.index-boxes-a.result one (sym c.boxes.ensures ∙ c.if-boxes-n.false) (sym c.box-number.ensures ∙ c.if-box-number-a.false) in
+    let place = placed c.args.boxes.now c.args.a c.index-boxes-a.result one (sym c.boxes.ensures ∙ c.if-boxes-n.false) (sym c.box_number.ensures ∙ c.if-box_number-a.false) in
     sym (calm_all c.args.boxes.now c.args.a c.index-boxes-a.result one place (sym c.if-owes.ensures) (subst P end c.loop-e.invariant))

@@ -6,5 +6,5 @@ use Rattle.node.proofs.passing.echo_back.Goals as goal
 
 pub returns : goal.returns
 returns c =
-    let r = replaced c.args.frame.now c.echo-back.new.packet c.requires c.echo-back.auto.packet in
-    c.seal-frame.ensures ∙ ap framed (r.packet ∙ c.echo-back.ensures.is)
+    let r = replaced c.args.frame.now c.echo_back.new.packet c.requires c.echo_back.auto.packet in
+    c.seal_frame.ensures ∙ ap framed (r.packet ∙ c.echo_back.ensures.is)

@@ -6,5 +6,5 @@ use Rattle.node.proofs.passing.hand_on.Goals as goal
 
 pub returns : goal.returns
 returns c =
-    let r = replaced c.args.frame.now c.hand-on.new.packet c.requires c.hand-on.auto.packet in
-    c.seal-frame.ensures ∙ ap framed (r.packet ∙ c.hand-on.ensures.is)
+    let r = replaced c.args.frame.now c.hand_on.new.packet c.requires c.hand_on.auto.packet in
+    c.seal_frame.ensures ∙ ap framed (r.packet ∙ c.hand_on.ensures.is)

@@ -7,4 +7,4 @@ pub loop-w-init : goal.loop-w-init
 loop-w-init c = (none_more (contents c.args.out.now) ∙ ap (λ z. contents c.args.out.now ++ z) (sym (greetings_none c.args.hellos)), omega arith)
 
 pub loop-w-preserved : goal.loop-w-preserved
-loop-w-preserved c = (chain _ _ _ _ _ _ c.give-greeting.ensures.holds c.loop-w.invariant.0 (greetings_more c.args.hellos c.loop-w.w), omega (arith, c.give-greeting.ensures.used, c.loop-w.invariant.1))
+loop-w-preserved c = (chain _ _ _ _ _ _ c.give_greeting.ensures.holds c.loop-w.invariant.0 (greetings_more c.args.hellos c.loop-w.w), omega (arith, c.give_greeting.ensures.used, c.loop-w.invariant.1))

@@ -15,14 +15,14 @@ returns-then-packet-gt0 c =
     let one : List Out = record { on = c.args.wire; frame = Tells (bundle_of c.args.packet) } ∷ [] in
     record {
       holds =
-          c.give-words.ensures.holds
+          c.give_words.ensures.holds
           ∙ (ap (λ z. contents c.args.out.now ++ parcel_bytes c.args.wire (sealed z)) (words_as c.args.packet l)
           ∙ (ap (λ z. contents c.args.out.now ++ z) (sym (append-nil _))
           ∙ ap (λ z. contents c.args.out.now ++ flat_map out_bytes (cond z [] one)) (sym some)));
-      used = c.give-words.ensures.used;
+      used = c.give_words.ensures.used;
     }
 
-pub give-words-requires : goal.give-words-requires
-give-words-requires c =
+pub give_words-requires : goal.give_words-requires
+give_words-requires c =
     let four : length c.args.packet.items ≡ 4 = search rules in
     (c.requires.0, omega (arith, few_words c.args.packet c.requires.1))

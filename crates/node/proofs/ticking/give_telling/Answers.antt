@@ -12,8 +12,8 @@ use Rattle.node.proofs.ticking.give_telling.Goals as goal
 pub bounds-words-wire : goal.bounds-words-wire
 bounds-words-wire c = (open_over_lem c.args.to (links_of c.args.station.now.links) c.in-Some.wire c.in-Some.ensures).small
 
-pub give-packet-requires : goal.give-packet-requires
-give-packet-requires c =
+pub give_packet-requires : goal.give_packet-requires
+give_packet-requires c =
     let l = (open_over_lem c.args.to (links_of c.args.station.now.links) c.in-Some.wire c.in-Some.ensures).small in
     let long : length c.args.words.now ≡ 8 = search rules in
     let same = get_or_default c.args.words.now c.in-Some.wire _ no_words (omega arith) in
@@ -24,6 +24,6 @@ returns c =
     let o = open_over_lem c.args.to (links_of c.args.station.now.links) c.in-Some.wire c.in-Some.ensures in
     let long : length c.args.words.now ≡ 8 = search rules in
     record {
-      holds = c.give-packet.ensures.holds ∙ ap (λ z. contents c.args.out.now ++ flat_map out_bytes z) (ap (λ p. packet_on c.in-Some.wire p) (get_or_default c.args.words.now c.in-Some.wire _ no_words (omega (arith, o.small))) ∙ sym (told_over_lem c.args.words.now c.args.to (links_of c.args.station.now.links) c.in-Some.wire o));
-      used = c.give-packet.ensures.used;
+      holds = c.give_packet.ensures.holds ∙ ap (λ z. contents c.args.out.now ++ flat_map out_bytes z) (ap (λ p. packet_on c.in-Some.wire p) (get_or_default c.args.words.now c.in-Some.wire _ no_words (omega (arith, o.small))) ∙ sym (told_over_lem c.args.words.now c.args.to (links_of c.args.station.now.links) c.in-Some.wire o));
+      used = c.give_packet.ensures.used;
     }

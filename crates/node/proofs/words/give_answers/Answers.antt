@@ -9,5 +9,5 @@ use Rattle.node.proofs.words.give_answers.Goals as goal
 
 pub returns : goal.returns
 returns c =
-    chain (contents c.args.out.now) (contents c.give-shown.new.out) (contents c.give-packet.new.out) (flat_map out_bytes (shown_on c.args.wire c.args.seens)) (flat_map out_bytes (packet_on c.args.wire c.args.words))
-    (flat_map out_bytes (answer_on c.args.wire c.args.seens c.args.words)) c.give-packet.ensures.holds c.give-shown.ensures.holds (sym (joined_append out_bytes (shown_on c.args.wire c.args.seens) (packet_on c.args.wire c.args.words)))
+    chain (contents c.args.out.now) (contents c.give_shown.new.out) (contents c.give_packet.new.out) (flat_map out_bytes (shown_on c.args.wire c.args.seens)) (flat_map out_bytes (packet_on c.args.wire c.args.words))
+    (flat_map out_bytes (answer_on c.args.wire c.args.seens c.args.words)) c.give_packet.ensures.holds c.give_shown.ensures.holds (sym (joined_append out_bytes (shown_on c.args.wire c.args.seens) (packet_on c.args.wire c.args.words)))

@@ -15,14 +15,14 @@ returns-then-seens-gt0 c =
     let one : List Out = record { on = c.args.wire; frame = Shows (seens_of c.args.seens) } ∷ [] in
     record {
       holds =
-          c.give-seens.ensures.holds
+          c.give_seens.ensures.holds
           ∙ (ap (λ z. contents c.args.out.now ++ parcel_bytes c.args.wire (sealed z)) (seens_as c.args.seens l)
           ∙ (ap (λ z. contents c.args.out.now ++ z) (sym (append-nil _))
           ∙ ap (λ z. contents c.args.out.now ++ flat_map out_bytes (cond z [] one)) (sym some)));
-      used = c.give-seens.ensures.used;
+      used = c.give_seens.ensures.used;
     }
 
-pub give-seens-requires : goal.give-seens-requires
-give-seens-requires c =
+pub give_seens-requires : goal.give_seens-requires
+give_seens-requires c =
     let four : length c.args.seens.items ≡ 4 = search rules in
     (c.requires.0, omega (arith, few_seens c.args.seens c.requires.1))

@@ -6,12 +6,12 @@ use Rattle.octets.proofs.Reader.number.Goals as goal
 pub loop-init : goal.loop-init
 loop-init c = (number_none c.args.self.now.left.now, omega arith)
 
-pub returns-in-err-low : goal.returns-in-err-low
-returns-in-err-low c =
-    let p = err_from_is_err_and c.from-residual.result c.from-residual.ensures.1 in
+pub returns-in_err-low : goal.returns-in_err-low
+returns-in_err-low c =
+    let p = err_from_is_err_and c.from_residual.result c.from_residual.ensures.1 in
     rw (p.1, p.2)
     (record {
-      reads = number_stops c.args.self.now.left.now _ c.args.width c.loop.counter _ _ c.loop.invariant.0 c.in-err-low.ensures (omega arith);
+      reads = number_stops c.args.self.now.left.now _ c.args.width c.loop.counter _ _ c.loop.invariant.0 c.in_err-low.ensures (omega arith);
       fits = tt;
     })
 
@@ -27,6 +27,6 @@ overflow-add-x c =
 
 pub loop-preserved : goal.loop-preserved
 loop-preserved c = (
-  rw c.from.ensures (number_more c.args.self.now.left.now c.loop.counter _ _ _ _ c.loop.invariant.0 c.in-ok-low.ensures),
+  rw c.from.ensures (number_more c.args.self.now.left.now c.loop.counter _ _ _ _ c.loop.invariant.0 c.in_ok-low.ensures),
   pow_more _ _ _ c.loop.invariant.1 (omega arith),
 )

@@ -12,5 +12,5 @@ returns-then-packet-lt28 c =
 
 pub returns : goal.returns
 returns c =
-    let is : c.put-sums.new.packet ≡ echoed c.args.packet.now = search rules in
+    let is : c.put_sums.new.packet ≡ echoed c.args.packet.now = search rules in
     record { is = is; good = subst (EchoGood c.args.packet.now) (sym is) (echo_good_lem c.args.packet.now (bytes_from c.args.packet.now (search rules))) }

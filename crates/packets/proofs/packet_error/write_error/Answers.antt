@@ -17,7 +17,7 @@ pub returns : goal.returns
 returns c =
     record {
       wrote =
-          subst (λ q. Wrote (error_quoting c.args.me c.args.trouble q) c.args.out.now c.put-error-2.result c.put-error-2.new.out)
-          (sym (take_all 28 c.args.packet.now (omega arith))) c.put-error-2.ensures;
+          subst (λ q. Wrote (error_quoting c.args.me c.args.trouble q) c.args.out.now c.put_error-2.result c.put_error-2.new.out)
+          (sym (take_all 28 c.args.packet.now (omega arith))) c.put_error-2.ensures;
       good = error_good_lem c.args.me c.args.trouble c.args.packet.now (omega arith) (bytes_from c.args.packet.now (search rules));
     }

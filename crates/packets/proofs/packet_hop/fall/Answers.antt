@@ -9,14 +9,14 @@ use Rattle.packets.proofs.packet_hop.fall.Goals as goal
 pub returns : goal.returns
 returns c =
     let h = c.args.header.now in
-    let s : c.from-be-bytes-sum.result ≡ word_at h 10 = c.from-be-bytes-sum.ensures in
-    let o : c.from-be-bytes-old.result ≡ word_at h 8 = c.from-be-bytes-old.ensures in
-    let e = word_as (set h 8 (ttl_of h - 1)) 10 c.mended.result c.to-be-bytes.result c.mended.type-inv c.to-be-bytes.ensures in
+    let s : c.from_be_bytes-sum.result ≡ word_at h 10 = c.from_be_bytes-sum.ensures in
+    let o : c.from_be_bytes-old.result ≡ word_at h 8 = c.from_be_bytes-old.ensures in
+    let e = word_as (set h 8 (ttl_of h - 1)) 10 c.mended.result c.to_be_bytes.result c.mended.type-inv c.to_be_bytes.ensures in
     let m : c.mended.result ≡ mended_sum (word_at h 10) (word_at h 8) (word_at h 8 - 256)
     = c.mended.ensures.value ∙ ap₂ (λ (x y : ℕ). mended_sum x y (y - 256)) s o in
     let t : TtlFalls (word_at h 10) (word_at h 8) (word_at h 8 - 256) c.mended.result
     = subst (λ (y : ℕ). TtlFalls (word_at h 10) y (y - 256) c.mended.result) o
-    (subst (λ (x : ℕ). TtlFalls x c.from-be-bytes-old.result (c.from-be-bytes-old.result - 256) c.mended.result) s c.mended.ensures.ttl) in
+    (subst (λ (x : ℕ). TtlFalls x c.from_be_bytes-old.result (c.from_be_bytes-old.result - 256) c.mended.result) s c.mended.ensures.ttl) in
     record {
       is = e ∙ ap (put_word (set h 8 (ttl_of h - 1)) 10) m;
       right = header_right h _ c.mended.result (bytes_from h (search rules)) (omega arith) e t;

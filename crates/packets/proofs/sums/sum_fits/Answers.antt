@@ -6,4 +6,4 @@ use Rattle.packets.proofs.sums.sum_fits.Goals as goal
 pub returns : goal.returns
 unfolding sum_fits
 returns c =
-    same_from_decides c.header-fits.result (sum_fits c.args.bytes.now) c.header-fits.ensures (Decides-eqb (ones_sum c.args.bytes.now) 0xffff)
+    same_from_decides c.header_fits.result (sum_fits c.args.bytes.now) c.header_fits.ensures (Decides-eqb (ones_sum c.args.bytes.now) 0xffff)

@@ -5,8 +5,8 @@ use Rattle.router.proofs.words.cleared.Goals as goal
 
 pub loop-e-preserved : goal.loop-e-preserved
 loop-e-preserved c = (
-  length-set c.loop-e.left c.loop-e.e c.without-bit.result ∙ c.loop-e.invariant.0,
-  cleared_more c.loop-e.left c.args.shown c.loop-e.e c.args.i c.without-bit.result c.loop-e.invariant.0 c.loop-e-test.true c.loop-e.invariant.1 c.without-bit.ensures,
+  length-set c.loop-e.left c.loop-e.e c.without_bit.result ∙ c.loop-e.invariant.0,
+  cleared_more c.loop-e.left c.args.shown c.loop-e.e c.args.i c.without_bit.result c.loop-e.invariant.0 c.loop-e-test.true c.loop-e.invariant.1 c.without_bit.ensures,
 )
 
 pub returns : goal.returns

@@ -4,4 +4,4 @@ use Rattle.script.proofs.Lines.{before_at}
 use Rattle.script.proofs.line.before_blank.Goals as goal
 
 pub returns : goal.returns
-returns c = let e = before_at _ _ c.first-blank.ensures.within c.first-blank.ensures.first c.first-blank.ensures.found in rw sub-zero (sym e)
+returns c = let e = before_at _ _ c.first_blank.ensures.within c.first_blank.ensures.first c.first_blank.ensures.found in rw sub-zero (sym e)

@@ -9,7 +9,7 @@ use Rattle.station.proofs.AnsweringWords.{about_in_lem, all_next, all_start, new
 use Rattle.station.proofs.Carrying.{four_blank}
 use Rattle.station.proofs.TakingWords.{any_word}
 use Rattle.station.proofs.answering.news_for.Goals as goal
-use Rattle.station.proofs.answering.news_for.Goals.{then-is-newer-than, else-is-newer-than}
+use Rattle.station.proofs.answering.news_for.Goals.{then-is_newer_than, else-is_newer_than}
 
 pub loop-k-init : goal.loop-k-init
 loop-k-init c =
@@ -20,14 +20,14 @@ loop-k-init c =
       all_start b.n p.count p.items c.requires.1,
     )
 
-pub id-of-requires : goal.id-of-requires
-id-of-requires c =
+pub id_of-requires : goal.id_of-requires
+id_of-requires c =
     let p = c.args.words in
     let l : length p.items ≡ 4 = search rules in
     about_in_lem c.args.router.n p.count c.loop-k.k p.items l c.requires.0 c.loop-k-test.true c.loop-k.invariant.1
 
-pub word-of-requires : goal.word-of-requires
-word-of-requires c =
+pub word_of-requires : goal.word_of-requires
+word_of-requires c =
     let p = c.args.words in
     let l : length p.items ≡ 4 = search rules in
     about_in_lem c.args.router.n p.count c.loop-k.k p.items l c.requires.0 c.loop-k-test.true c.loop-k.invariant.1
@@ -49,15 +49,15 @@ loop-k-preserved c =
     let ys = c.loop-k.items in
     let m = c.loop-k.count in
     let inv = c.loop-k.invariant in
-    let tested : (t : Bool) → t ≡ newer_id c.id-of.result x.id → left ≡ cond t (new ∷ rest) rest =
-    λ t e. news_step n k p.items b l few h ∙ ap (λ (s : Bool). cond s (new ∷ rest) rest) (sym (e ∙ ap (λ (y : WordId). newer_id y x.id) c.id-of.ensures)) in (
-      elim c.if-is-newer-than.branch [
-        | then-is-newer-than w ↦
-            put_as item_of no_word all rest (k + 1) (m + 1) c.if-is-newer-than.count (set ys m w.word-of.result) c.if-is-newer-than.items w.count-is w.items-is
-            (put_more item_of no_word all left rest k m ys w.word-of.result (omega arith) inv.0 (tested true w.if-is-newer-than.ensures ∙ ap (λ (i : Item). i ∷ rest) (sym w.word-of.ensures)))
-        | else-is-newer-than w ↦
-            put_as item_of no_word all rest (k + 1) m c.if-is-newer-than.count ys c.if-is-newer-than.items w.count-is w.items-is
-            (put_not item_of no_word all left rest k m ys inv.0 (tested false w.if-is-newer-than.ensures))
+    let tested : (t : Bool) → t ≡ newer_id c.id_of.result x.id → left ≡ cond t (new ∷ rest) rest =
+    λ t e. news_step n k p.items b l few h ∙ ap (λ (s : Bool). cond s (new ∷ rest) rest) (sym (e ∙ ap (λ (y : WordId). newer_id y x.id) c.id_of.ensures)) in (
+      elim c.if-is_newer_than.branch [
+        | then-is_newer_than w ↦
+            put_as item_of no_word all rest (k + 1) (m + 1) c.if-is_newer_than.count (set ys m w.word_of.result) c.if-is_newer_than.items w.count-is w.items-is
+            (put_more item_of no_word all left rest k m ys w.word_of.result (omega arith) inv.0 (tested true w.if-is_newer_than.ensures ∙ ap (λ (i : Item). i ∷ rest) (sym w.word_of.ensures)))
+        | else-is_newer_than w ↦
+            put_as item_of no_word all rest (k + 1) m c.if-is_newer_than.count ys c.if-is_newer_than.items w.count-is w.items-is
+            (put_not item_of no_word all left rest k m ys inv.0 (tested false w.if-is_newer_than.ensures))
       ],
       all_next b.n n k p.items l few h inv.1,
     )

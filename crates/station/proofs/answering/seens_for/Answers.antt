@@ -10,7 +10,7 @@ use Rattle.station.proofs.AnsweringWords.{about_in_lem, all_next, all_start, put
 use Rattle.station.proofs.Carrying.{four_blank}
 use Rattle.station.proofs.TakingWords.{any_word}
 use Rattle.station.proofs.answering.seens_for.Goals as goal
-use Rattle.station.proofs.answering.seens_for.Goals.{then-is-same-as, else-is-same-as}
+use Rattle.station.proofs.answering.seens_for.Goals.{then-is_same_as, else-is_same_as}
 
 pub loop-k-init : goal.loop-k-init
 loop-k-init c =
@@ -20,8 +20,8 @@ loop-k-init c =
       all_start b.n p.count p.items c.requires.1,
     )
 
-pub id-of-requires : goal.id-of-requires
-id-of-requires c =
+pub id_of-requires : goal.id_of-requires
+id_of-requires c =
     let p = c.args.words in
     let l : length p.items ≡ 4 = search rules in
     about_in_lem c.args.router.n p.count c.loop-k.k p.items l c.requires.0 c.loop-k-test.true c.loop-k.invariant.1
@@ -42,15 +42,15 @@ loop-k-preserved c =
     let ys = c.loop-k.items in
     let m = c.loop-k.count in
     let inv = c.loop-k.invariant in
-    let tested : (t : Bool) → t ≡ same_id x.id c.id-of.result → left ≡ cond t (sight_of x.id ∷ rest) rest =
-    λ t e. seens_step n k p.items b l few h ∙ ap (λ (s : Bool). cond s (sight_of x.id ∷ rest) rest) (sym (e ∙ ap (λ (y : WordId). same_id x.id y) c.id-of.ensures)) in (
-      elim c.if-is-same-as.branch [
-        | then-is-same-as w ↦
-            put_as sight_of no_id all rest (k + 1) (m + 1) c.if-is-same-as.count (set ys m x.id) c.if-is-same-as.items w.count-is w.items-is
-            (put_more sight_of no_id all left rest k m ys x.id (omega arith) inv.0 (tested true w.if-is-same-as.ensures))
-        | else-is-same-as w ↦
-            put_as sight_of no_id all rest (k + 1) m c.if-is-same-as.count ys c.if-is-same-as.items w.count-is w.items-is
-            (put_not sight_of no_id all left rest k m ys inv.0 (tested false w.if-is-same-as.ensures))
+    let tested : (t : Bool) → t ≡ same_id x.id c.id_of.result → left ≡ cond t (sight_of x.id ∷ rest) rest =
+    λ t e. seens_step n k p.items b l few h ∙ ap (λ (s : Bool). cond s (sight_of x.id ∷ rest) rest) (sym (e ∙ ap (λ (y : WordId). same_id x.id y) c.id_of.ensures)) in (
+      elim c.if-is_same_as.branch [
+        | then-is_same_as w ↦
+            put_as sight_of no_id all rest (k + 1) (m + 1) c.if-is_same_as.count (set ys m x.id) c.if-is_same_as.items w.count-is w.items-is
+            (put_more sight_of no_id all left rest k m ys x.id (omega arith) inv.0 (tested true w.if-is_same_as.ensures))
+        | else-is_same_as w ↦
+            put_as sight_of no_id all rest (k + 1) m c.if-is_same_as.count ys c.if-is_same_as.items w.count-is w.items-is
+            (put_not sight_of no_id all left rest k m ys inv.0 (tested false w.if-is_same_as.ensures))
       ],
       all_next b.n n k p.items l few h inv.1,
     )

@@ -28,13 +28,13 @@ loop-k-preserved c =
     let h = c.loop-k-test.true in
     let inv = c.loop-k.invariant in
     let b = box_of c.loop-k.next in (
-      inv.0 ∙ seen_step a.from a.count k a.ids b l m h ∙ ap (λ (u : Box). sees_all a.from (sights_in (a.count - (k + 1)) (drop (k + 1) a.ids)) u) (sym c.seen-one-next.ensures),
-      subst (SameRoads (box_of a.router)) (sym c.seen-one-next.ensures) (record { boxes = inv.1.boxes; self = inv.1.self; roads = inv.1.roads }),
+      inv.0 ∙ seen_step a.from a.count k a.ids b l m h ∙ ap (λ (u : Box). sees_all a.from (sights_in (a.count - (k + 1)) (drop (k + 1) a.ids)) u) (sym c.seen_one-next.ensures),
+      subst (SameRoads (box_of a.router)) (sym c.seen_one-next.ensures) (record { boxes = inv.1.boxes; self = inv.1.self; roads = inv.1.roads }),
       (none_later (is_out a.router.n) a.count k a.ids l m h inv.2.0, none_later is_spent a.count k a.ids l m h inv.2.1),
     )
 
-pub seen-one-next-requires : goal.seen-one-next-requires
-seen-one-next-requires c =
+pub seen_one-next-requires : goal.seen_one-next-requires
+seen_one-next-requires c =
     let a = c.args in
     let k = c.loop-k.k in
     let l : length a.ids ≡ 4 = search rules in

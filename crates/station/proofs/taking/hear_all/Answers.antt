@@ -15,8 +15,8 @@ loop-k-init c =
     let a = c.args in
     heard_none a.fits a.from a.words.count a.words.items a.tags (box_of a.router) (None ∷ None ∷ None ∷ None ∷ []) refl (four_blank None None refl) c.requires.1.1.1
 
-pub hear-one-outcome-requires : goal.hear-one-outcome-requires
-hear-one-outcome-requires c =
+pub hear_one-outcome-requires : goal.hear_one-outcome-requires
+hear_one-outcome-requires c =
     let a = c.args in
     let k = c.loop-k.k in
     let xs = a.words.items in
@@ -39,7 +39,7 @@ loop-k-preserved c =
     let a = c.args in
     let l : length a.words.items ≡ 4 = search rules in
     let m : length a.tags ≡ 4 = search rules in
-    let one = c.hear-one-outcome in
+    let one = c.hear_one-outcome in
     heard_more a.fits a.from a.words.count a.words.items a.tags (box_of a.router) c.loop-k.k (box_of c.loop-k.next) (box_of one.result.0) c.loop-k.outcomes one.result.1
     l m c.requires.0 c.loop-k-test.true c.loop-k.invariant one.ensures.is one.ensures.outcome
 

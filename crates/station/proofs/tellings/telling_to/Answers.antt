@@ -8,8 +8,8 @@ use Rattle.station.specs.Ticking.{words_in}
 use Rattle.station.proofs.Carrying.{at_padded, item_at, items_length, words_by}
 use Rattle.station.proofs.tellings.telling_to.Goals as goal
 
-pub word-of-requires : goal.word-of-requires
-word-of-requires c =
+pub word_of-requires : goal.word_of-requires
+word_of-requires c =
     let b = box_of c.args.router in
     let e = c.args.to in
     let ps = tells e b in

@@ -21,17 +21,17 @@ room costs i at next n h l e fits =
     let long = length_joined bytes_of_road 3 length_road (roads_to costs i) in
     omega (arith, long, all, more)
 
-pub put-byte-next-requires : goal.put-byte-next-requires
-put-byte-next-requires c =
+pub put_byte-next-requires : goal.put_byte-next-requires
+put_byte-next-requires c =
     let f : c.from.result ≡ c.loop-i.i = c.from.ensures in
     let z = rw f at c.if-cost-ne0.true in
     omega (arith, room c.args.costs c.loop-i.i c.args.at c.loop-i.next (length c.args.out.now) z c.loop-i-test.true c.loop-i.invariant.place c.requires)
 
-pub put-number-next-requires : goal.put-number-next-requires
-put-number-next-requires c =
+pub put_number-next-requires : goal.put_number-next-requires
+put_number-next-requires c =
     let f : c.from.result ≡ c.loop-i.i = c.from.ensures in
     let z = rw f at c.if-cost-ne0.true in
-    omega (arith, c.put-byte-next.ensures.next, room c.args.costs c.loop-i.i c.args.at c.loop-i.next (length c.args.out.now) z c.loop-i-test.true c.loop-i.invariant.place c.requires)
+    omega (arith, c.put_byte-next.ensures.next, room c.args.costs c.loop-i.i c.args.at c.loop-i.next (length c.args.out.now) z c.loop-i-test.true c.loop-i.invariant.place c.requires)
 
 -- the bytes of the roads with one more
 more_bytes : (costs : List ℕ) (i : ℕ) → (get_or costs i 0 ≡ 0 → ⊥) → (flat_map bytes_of_road (roads_to costs i) ++ (i ∷ [])) ++ octets 2 (get_or costs i 0) ≡ flat_map bytes_of_road (roads_to costs (i + 1))
@@ -47,14 +47,14 @@ loop-i-preserved c =
       | then-cost-ne0 w ↦
           let z = rw f at w.if-cost-ne0.true in
           let r = room c.args.costs c.loop-i.i c.args.at c.loop-i.next (length c.args.out.now) z c.loop-i-test.true c.loop-i.invariant.place c.requires in
-          let w1 = then_byte c.loop-i.i c.loop-i.invariant (omega arith) w.put-byte-next.ensures.wrote w.put-byte-next.ensures.next in
-          let w2 = then_number 2 w.from-then-cost-ne0.result w1 (omega (arith, w.put-byte-next.ensures.next)) w.put-number-next.ensures.wrote w.put-number-next.ensures.next in
+          let w1 = then_byte c.loop-i.i c.loop-i.invariant (omega arith) w.put_byte-next.ensures.wrote w.put_byte-next.ensures.next in
+          let w2 = then_number 2 w.from-then-cost-ne0.result w1 (omega (arith, w.put_byte-next.ensures.next)) w.put_number-next.ensures.wrote w.put_number-next.ensures.next in
           let v : w.from-then-cost-ne0.result ≡ get_or c.args.costs c.loop-i.i 0 = w.from-then-cost-ne0.ensures ∙ ap (λ i. get_or c.args.costs i 0) f in
-          rw (w.out-is, w.next-is)
+          rw (w.out-is, w.next_is)
           (written_as (ap (λ x. (flat_map bytes_of_road (roads_to c.args.costs c.loop-i.i) ++ (c.loop-i.i ∷ [])) ++ octets 2 x) v ∙ more_bytes c.args.costs c.loop-i.i z) w2)
       | else-cost-ne0 w ↦
           let z = rw f at w.if-cost-ne0.false in
-          rw (w.out-is, w.next-is, roads_skip c.args.costs c.loop-i.i z) c.loop-i.invariant
+          rw (w.out-is, w.next_is, roads_skip c.args.costs c.loop-i.i z) c.loop-i.invariant
     ]
 
 pub returns : goal.returns

@@ -8,17 +8,17 @@ use Rattle.wordframes.proofs.roads_bytes.roads.Goals as goal
 pub loop-init : goal.loop-init
 loop-init c = (times_none (road_onto c.args.n c.args.about) (0, replicate 64 0) c.args.reader.now.left.now, refl)
 
-pub returns-in-err-to : goal.returns-in-err-to
-returns-in-err-to c =
-    let p = err_from_is_err_and c.from-residual.result c.from-residual.ensures.1 in
+pub returns-in_err-to : goal.returns-in_err-to
+returns-in_err-to c =
+    let p = err_from_is_err_and c.from_residual.result c.from_residual.ensures.1 in
     rw (p.1, p.2)
-    (roads_stop c.args.n c.args.about c.args.reader.now.left.now c.args.count c.loop.counter c.loop.from c.loop.costs _ _ c.loop.invariant.0 c.in-err-to.ensures.reads (omega arith))
+    (roads_stop c.args.n c.args.about c.args.reader.now.left.now c.args.count c.loop.counter c.loop.from c.loop.costs _ _ c.loop.invariant.0 c.in_err-to.ensures.reads (omega arith))
 
 pub loop-preserved : goal.loop-preserved
 loop-preserved c =
-    let f : c.from.result ≡ c.in-ok-to.to = c.from.ensures in (
+    let f : c.from.result ≡ c.in_ok-to.to = c.from.ensures in (
       rw f
-          (roads_more c.args.n c.args.about c.args.reader.now.left.now c.loop.counter c.loop.from c.in-ok-to.to c.in-ok-to.cost c.loop.costs _ _ c.loop.invariant.0 c.in-ok-to.ensures.reads),
+          (roads_more c.args.n c.args.about c.args.reader.now.left.now c.loop.counter c.loop.from c.in_ok-to.to c.in_ok-to.cost c.loop.costs _ _ c.loop.invariant.0 c.in_ok-to.ensures.reads),
       length-set _ _ _ ∙ c.loop.invariant.1,
     )
 

@@ -7,17 +7,17 @@ use Rattle.wordframes.proofs.seens_bytes.ids.Goals as goal
 pub loop-i-init : goal.loop-i-init
 loop-i-init c = filling_none (id_in c.args.n) blank_id c.args.reader.now.left.now
 
-pub returns-in-err-items : goal.returns-in-err-items
-returns-in-err-items c =
-    let p = err_from_is_err_and c.from-residual.result c.from-residual.ensures.1 in
+pub returns-in_err-items : goal.returns-in_err-items
+returns-in_err-items c =
+    let p = err_from_is_err_and c.from_residual.result c.from_residual.ensures.1 in
     let l : c.loop-i.i < c.args.count = omega (arith, c.from-i-end.ensures) in
     rw (p.1, p.2)
-    (filling_stops (id_in c.args.n) blank_id c.args.reader.now.left.now c.loop-i.i c.args.count c.loop-i.items _ _ l c.loop-i.invariant c.in-err-items.ensures)
+    (filling_stops (id_in c.args.n) blank_id c.args.reader.now.left.now c.loop-i.i c.args.count c.loop-i.items _ _ l c.loop-i.invariant c.in_err-items.ensures)
 
 pub loop-i-preserved : goal.loop-i-preserved
 loop-i-preserved c =
     let l : c.loop-i.i < 4 = omega (arith, c.from-i-end.ensures) in
-    filling_more (id_in c.args.n) blank_id c.args.reader.now.left.now c.loop-i.i c.loop-i.items _ _ _ l c.loop-i.invariant c.in-ok-items.ensures
+    filling_more (id_in c.args.n) blank_id c.args.reader.now.left.now c.loop-i.i c.loop-i.items _ _ _ l c.loop-i.invariant c.in_ok-items.ensures
 
 pub returns : goal.returns
 returns c =

@@ -12,11 +12,11 @@ loop-i-init c = (written_none c.args.at c.args.out.now, omega arith)
 pub loop-i-preserved : goal.loop-i-preserved
 loop-i-preserved c =
     let id = get_or c.args.items c.loop-i.i blank_id in
-    let n : c.put-id-next.result ≡ c.loop-i.next + length (bytes_of_id id) = omega (arith, length_id id, c.put-id-next.ensures.next) in
-    let w = then_bytes (bytes_of_id id) c.loop-i.invariant.0 (omega arith) c.put-id-next.ensures.wrote n in (
-      subst (λ bytes. Written c.args.at bytes c.args.out.now c.put-id-next.new.out c.put-id-next.result)
+    let n : c.put_id-next.result ≡ c.loop-i.next + length (bytes_of_id id) = omega (arith, length_id id, c.put_id-next.ensures.next) in
+    let w = then_bytes (bytes_of_id id) c.loop-i.invariant.0 (omega arith) c.put_id-next.ensures.wrote n in (
+      subst (λ bytes. Written c.args.at bytes c.args.out.now c.put_id-next.new.out c.put_id-next.result)
           (joined_next bytes_of_id c.args.items c.loop-i.i blank_id (omega (arith, c.from-i-end.ensures))) w,
-      omega (arith, c.put-id-next.ensures.next),
+      omega (arith, c.put_id-next.ensures.next),
     )
 
 pub returns : goal.returns

@@ -13,11 +13,11 @@ returns-then-out-from c =
 pub returns : goal.returns
 returns c =
     let l : length c.args.seens.items ≡ 4 = omega arith in
-    let w1 = then_byte 3 (written_none 0 c.args.out.now) (omega arith) c.put-byte-at.ensures.wrote c.put-byte-at.ensures.next in
-    let w2 = then_number 8 c.args.seens.drawn w1 (omega arith) c.put-number-at.ensures.wrote c.put-number-at.ensures.next in
-    let w3 = then_byte c.args.seens.count w2 (omega arith) c.put-byte-at-2.ensures.wrote c.put-byte-at-2.ensures.next in
-    let n : c.put-ids.result ≡ c.put-byte-at-2.result + length (bytes_of_ids c.args.seens.items c.args.seens.count) =
-    omega (arith, length_ids c.args.seens.items c.args.seens.count (omega arith), c.put-ids.ensures.next) in
-    let w4 = then_bytes (bytes_of_ids c.args.seens.items c.args.seens.count) w3 (omega arith) c.put-ids.ensures.wrote n in
+    let w1 = then_byte 3 (written_none 0 c.args.out.now) (omega arith) c.put_byte-at.ensures.wrote c.put_byte-at.ensures.next in
+    let w2 = then_number 8 c.args.seens.drawn w1 (omega arith) c.put_number-at.ensures.wrote c.put_number-at.ensures.next in
+    let w3 = then_byte c.args.seens.count w2 (omega arith) c.put_byte-at-2.ensures.wrote c.put_byte-at-2.ensures.next in
+    let n : c.put_ids.result ≡ c.put_byte-at-2.result + length (bytes_of_ids c.args.seens.items c.args.seens.count) =
+    omega (arith, length_ids c.args.seens.items c.args.seens.count (omega arith), c.put_ids.ensures.next) in
+    let w4 = then_bytes (bytes_of_ids c.args.seens.items c.args.seens.count) w3 (omega arith) c.put_ids.ensures.wrote n in
     let w = written_as (ap (λ z. 3 ∷ z) (append_assoc (octets 8 c.args.seens.drawn) (c.args.seens.count ∷ []) _)) w4 in
     (w.place ∙ zero-add _, w.is)

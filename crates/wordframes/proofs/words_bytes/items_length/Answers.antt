@@ -9,9 +9,9 @@ loop-i-init c = (refl, omega arith)
 
 pub loop-i-preserved : goal.loop-i-preserved
 loop-i-preserved c =
-    let v : c.word-length-all.result ≡ length (bytes_of_word (get_or c.args.items c.loop-i.i no_word)) = c.word-length-all.ensures.known in
+    let v : c.word_length-all.result ≡ length (bytes_of_word (get_or c.args.items c.loop-i.i no_word)) = c.word_length-all.ensures.known in
     let n = length_next bytes_of_word c.args.items c.loop-i.i no_word (omega (arith, c.from-i-end.ensures)) in
-    (ap₂ (λ x y. x + y) c.loop-i.invariant.0 v ∙ n, omega (arith, c.loop-i.invariant.1, c.word-length-all.ensures.small))
+    (ap₂ (λ x y. x + y) c.loop-i.invariant.0 v ∙ n, omega (arith, c.loop-i.invariant.1, c.word_length-all.ensures.small))
 
 pub returns : goal.returns
 returns c =

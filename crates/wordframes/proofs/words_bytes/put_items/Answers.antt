@@ -9,8 +9,8 @@ use Rattle.wordframes.proofs.words_bytes.put_items.Goals as goal
 pub loop-i-init : goal.loop-i-init
 loop-i-init c = written_none c.args.at c.args.out.now
 
-pub put-word-next-requires : goal.put-word-next-requires
-put-word-next-requires c =
+pub put_word-next-requires : goal.put_word-next-requires
+put_word-next-requires c =
     let lt : c.loop-i.i < length c.args.items = omega (arith, c.from-i-end.ensures) in
     let n = length_next bytes_of_word c.args.items c.loop-i.i no_word lt in
     let m = joined_mono bytes_of_word (c.loop-i.i + 1) c.args.count c.args.items (omega (arith, c.from-i-end.ensures)) in
@@ -22,7 +22,7 @@ loop-i-preserved c =
     let n = length_next bytes_of_word c.args.items c.loop-i.i no_word lt in
     let m = joined_mono bytes_of_word (c.loop-i.i + 1) c.args.count c.args.items (omega (arith, c.from-i-end.ensures)) in
     let le : c.loop-i.next ≤ length c.args.out.now = omega (arith, n, m, c.loop-i.invariant.place, c.requires) in
-    let w = then_bytes (bytes_of_word (get_or c.args.items c.loop-i.i no_word)) c.loop-i.invariant le c.put-word-next.ensures.wrote c.put-word-next.ensures.next in
+    let w = then_bytes (bytes_of_word (get_or c.args.items c.loop-i.i no_word)) c.loop-i.invariant le c.put_word-next.ensures.wrote c.put_word-next.ensures.next in
     written_as (joined_next bytes_of_word c.args.items c.loop-i.i no_word lt) w
 
 pub returns : goal.returns

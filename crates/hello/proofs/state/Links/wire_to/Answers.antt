@@ -4,8 +4,8 @@ use Rattle.hello.specs.State.{LowestTo, links_of}
 use Rattle.hello.proofs.Lowest.{lowest_cost}
 use Rattle.hello.proofs.state.Links.wire_to.Goals as goal
 
-pub returns-then-opens-to : goal.returns-then-opens-to
-returns-then-opens-to c =
+pub returns-then-opens_to : goal.returns-then-opens_to
+returns-then-opens_to c =
     let low : LowestTo c.args.to (links_of c.args.self) (Some c.loop-w.w) = search rules in
     record { lowest = low; costs = lowest_cost c.args.to (links_of c.args.self) (Some c.loop-w.w) low }
 

@@ -9,30 +9,30 @@ use Rattle.journal.proofs.notes.Notes.note_line.Goals as goal
 pub returns-then-left-eq0 : goal.returns-then-left-eq0
 returns-then-left-eq0 c = (refl, λ lines. replayed_empty c.args.until lines c.args.left.now (known_by c.args.self.now) c.if-left-eq0.true)
 
-pub returns-in-err-line : goal.returns-in-err-line
-returns-in-err-line c =
-    let p = err_from_is_err_and c.from-residual.result c.from-residual.ensures.1 in
+pub returns-in_err-line : goal.returns-in_err-line
+returns-in_err-line c =
+    let p = err_from_is_err_and c.from_residual.result c.from_residual.ensures.1 in
     let some : 0 < length c.args.left.now = omega arith in
-    rw (p.1, p.2) (refl, some, faulty c.args.until c.args.left.now (known_by c.args.self.now) _ some c.in-err-line.ensures.reads)
+    rw (p.1, p.2) (refl, some, faulty c.args.until c.args.left.now (known_by c.args.self.now) _ some c.in_err-line.ensures.reads)
 
 pub returns-then-line-until : goal.returns-then-line-until
 returns-then-line-until c =
     let k = known_by c.args.self.now in
-    let l = c.in-ok-line.line in
-    let e = c.in-ok-line.ensures in
-    (refl, stopped c.args.until c.args.left.now k l (drop c.in-ok-line.long c.args.left.now) (omega arith) e.reads c.if-line-until.true)
+    let l = c.in_ok-line.line in
+    let e = c.in_ok-line.ensures in
+    (refl, stopped c.args.until c.args.left.now k l (drop c.in_ok-line.long c.args.left.now) (omega arith) e.reads c.if-line-until.true)
 
 pub note-requires : goal.note-requires
-note-requires c = c.in-ok-line.ensures.only.1.entry
+note-requires c = c.in_ok-line.ensures.only.1.entry
 
 pub returns : goal.returns
 returns c =
     let k = known_by c.args.self.now in
     let until = c.args.until in
     let bytes = c.args.left.now in
-    let l = c.in-ok-line.line in
-    let long = c.in-ok-line.long in
-    let e = c.in-ok-line.ensures in
+    let l = c.in_ok-line.line in
+    let long = c.in_ok-line.long in
+    let e = c.in_ok-line.ensures in
     let some : 0 < length bytes = omega arith in (
       omega (arith, e.long),
       omega (arith, e.long, length-take long bytes, ap length e.only.0),

@@ -8,5 +8,5 @@ use Rattle.node.proofs.state.Node.hand_back.Goals as goal
 
 pub returns : goal.returns
 returns c =
-    noted_error (contents c.args.out.now) (contents c.note-refused.new.out) (contents c.hand-error.new.self) (whole_of c.args.self.now) c.args.number 8 c.box-number.result
-    (λ k. error_of k c.args.trouble c.args.packet.now) c.hand-error.ensures.holds (c.box-number.ensures ∙ ap (λ (l : Links). l.me) c.links.ensures) c.note-refused.ensures.holds
+    noted_error (contents c.args.out.now) (contents c.note_refused.new.out) (contents c.hand_error.new.self) (whole_of c.args.self.now) c.args.number 8 c.box_number.result
+    (λ k. error_of k c.args.trouble c.args.packet.now) c.hand_error.ensures.holds (c.box_number.ensures ∙ ap (λ (l : Links). l.me) c.links.ensures) c.note_refused.ensures.holds

@@ -11,8 +11,8 @@ pub returns : goal.returns
 returns c =
     record {
       holds =
-          c.note-said.ensures.holds
+          c.note_said.ensures.holds
           ∙ ap (λ x. contents c.args.out.now ++ note_of (whole_of c.args.self.now) (Said x))
-          (own_item_lem c.in-Ok.word (box_of c.router-router.result) (whole_of c.args.self.now) c.box-number.result c.router-router.ensures c.box-number.ensures c.in-Ok.ensures.about c.in-Ok.ensures.is);
-      used = c.note-said.ensures.used;
+          (own_item_lem c.in-Ok.word (box_of c.router-router.result) (whole_of c.args.self.now) c.box_number.result c.router-router.ensures c.box_number.ensures c.in-Ok.ensures.about c.in-Ok.ensures.is);
+      used = c.note_said.ensures.used;
     }

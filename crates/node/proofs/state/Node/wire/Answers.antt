@@ -20,7 +20,7 @@ use Rattle.node.proofs.Heard.{by_reading, did_reading, fits_long, handled_by_lem
 use Rattle.node.proofs.state.Node.wire.Goals as goal
 
 pub overflow-sub-end : goal.overflow-sub-end
-overflow-sub-end c = fits_long c.args.frame.now (c.if-not-sum-fits.ensures.fits.0 refl)
+overflow-sub-end c = fits_long c.args.frame.now (c.if-not-sum_fits.ensures.fits.0 refl)
 
 pub returns-then-cost-eq0 : goal.returns-then-cost-eq0
 returns-then-cost-eq0 c =
@@ -32,22 +32,22 @@ returns-then-cost-eq0 c =
       so = λ p n. absurd (omega arith);
     }
 
-pub returns-then-not-sum-fits : goal.returns-then-not-sum-fits
-returns-then-not-sum-fits c =
+pub returns-then-not-sum_fits : goal.returns-then-not-sum_fits
+returns-then-not-sum_fits c =
     let s = whole_of c.args.self.now in
     let z : s.links.cost c.args.wire ≡ c.cost.result = sym (ap (λ (l : Links). l.cost c.args.wire) c.links-links.ensures) ∙ sym c.cost.ensures in
     record {
       dropped = λ e. absurd (c.if-cost-eq0.false (sym z ∙ e));
-      unfit = λ p n. record { whole = refl; gives = c.note-refused.ensures.holds ∙ ap (λ y. y ++ note_of s (Refused 1)) c.clear.ensures.0; errors = refl; left = refl; port = refl };
-      read = λ p f. absurd (false≢true (c.if-not-sum-fits.ensures.fits.1 f));
-      so = λ p f. absurd (false≢true (c.if-not-sum-fits.ensures.fits.1 f));
+      unfit = λ p n. record { whole = refl; gives = c.note_refused.ensures.holds ∙ ap (λ y. y ++ note_of s (Refused 1)) c.clear.ensures.0; errors = refl; left = refl; port = refl };
+      read = λ p f. absurd (false≢true (c.if-not-sum_fits.ensures.fits.1 f));
+      so = λ p f. absurd (false≢true (c.if-not-sum_fits.ensures.fits.1 f));
     }
 
 pub returns-in-Err : goal.returns-in-Err
 returns-in-Err c =
     let s = whole_of c.args.self.now in
     let z : s.links.cost c.args.wire ≡ c.cost.result = sym (ap (λ (l : Links). l.cost c.args.wire) c.links-links.ensures) ∙ sym c.cost.ensures in
-    let f : SumFits c.args.frame.now = c.if-not-sum-fits.ensures.fits.0 refl in
+    let f : SumFits c.args.frame.now = c.if-not-sum_fits.ensures.fits.0 refl in
     let long = fits_long c.args.frame.now f in
     let e : length c.args.frame.now - 4 - 0 ≡ length c.args.frame.now - 4 = omega arith in
     record {
@@ -58,7 +58,7 @@ returns-in-Err c =
           (c.boxes.ensures ∙ ap (λ (l : Links). l.n) c.links-links.ensures) (ap (λ k. take k c.args.frame.now) e) c.in-Err.ensures.reads
           (record {
             whole = refl;
-            gives = c.note-refused-in-Err.ensures.holds ∙ (ap (λ y. y ++ note_of s (Refused c.fault-number.result)) c.clear.ensures.0 ∙ ap (λ k. note_of s (Refused k)) c.fault-number.ensures);
+            gives = c.note_refused-in-Err.ensures.holds ∙ (ap (λ y. y ++ note_of s (Refused c.fault_number.result)) c.clear.ensures.0 ∙ ap (λ k. note_of s (Refused k)) c.fault_number.ensures);
             errors = refl;
             left = refl;
             port = refl;
@@ -70,7 +70,7 @@ pub returns-in-Hello : goal.returns-in-Hello
 returns-in-Hello c =
     let s = whole_of c.args.self.now in
     let z : s.links.cost c.args.wire ≡ c.cost.result = sym (ap (λ (l : Links). l.cost c.args.wire) c.links-links.ensures) ∙ sym c.cost.ensures in
-    let f : SumFits c.args.frame.now = c.if-not-sum-fits.ensures.fits.0 refl in
+    let f : SumFits c.args.frame.now = c.if-not-sum_fits.ensures.fits.0 refl in
     let long = fits_long c.args.frame.now f in
     let e : length c.args.frame.now - 4 - 0 ≡ length c.args.frame.now - 4 = omega arith in
     record {
@@ -87,7 +87,7 @@ pub returns-in-Words : goal.returns-in-Words
 returns-in-Words c =
     let s = whole_of c.args.self.now in
     let z : s.links.cost c.args.wire ≡ c.cost.result = sym (ap (λ (l : Links). l.cost c.args.wire) c.links-links.ensures) ∙ sym c.cost.ensures in
-    let f : SumFits c.args.frame.now = c.if-not-sum-fits.ensures.fits.0 refl in
+    let f : SumFits c.args.frame.now = c.if-not-sum_fits.ensures.fits.0 refl in
     let long = fits_long c.args.frame.now f in
     let e : length c.args.frame.now - 4 - 0 ≡ length c.args.frame.now - 4 = omega arith in
     record {
@@ -104,7 +104,7 @@ pub returns-in-Seen : goal.returns-in-Seen
 returns-in-Seen c =
     let s = whole_of c.args.self.now in
     let z : s.links.cost c.args.wire ≡ c.cost.result = sym (ap (λ (l : Links). l.cost c.args.wire) c.links-links.ensures) ∙ sym c.cost.ensures in
-    let f : SumFits c.args.frame.now = c.if-not-sum-fits.ensures.fits.0 refl in
+    let f : SumFits c.args.frame.now = c.if-not-sum_fits.ensures.fits.0 refl in
     let long = fits_long c.args.frame.now f in
     let e : length c.args.frame.now - 4 - 0 ≡ length c.args.frame.now - 4 = omega arith in
     record {
@@ -121,7 +121,7 @@ pub returns-in-Packet : goal.returns-in-Packet
 returns-in-Packet c =
     let s = whole_of c.args.self.now in
     let z : s.links.cost c.args.wire ≡ c.cost.result = sym (ap (λ (l : Links). l.cost c.args.wire) c.links-links.ensures) ∙ sym c.cost.ensures in
-    let f : SumFits c.args.frame.now = c.if-not-sum-fits.ensures.fits.0 refl in
+    let f : SumFits c.args.frame.now = c.if-not-sum_fits.ensures.fits.0 refl in
     let long = fits_long c.args.frame.now f in
     let e : length c.args.frame.now - 4 - 0 ≡ length c.args.frame.now - 4 = omega arith in
     record {

@@ -19,9 +19,9 @@ returns-in-Ok c =
     record {
       is = t.is ∙ ap (λ o. if_refused o (λ r. s) l) (sym t.refused);
       gives =
-          words_given (contents c.args.out.now) (contents c.note-words.new.out) (contents c.give-answers.new.out) c.in-Ok.heard.outcomes (outcomes_from (teller c.args.wire s.links) p c.args.tags s)
+          words_given (contents c.args.out.now) (contents c.note_words.new.out) (contents c.give_answers.new.out) c.in-Ok.heard.outcomes (outcomes_from (teller c.args.wire s.links) p c.args.tags s)
           p.items c.args.tags s (station_of c.in-Ok.heard.station) l p.count (answer_on c.in-Ok.heard.wire c.in-Ok.heard.seens c.in-Ok.heard.words) (teller c.args.wire s.links) (bundle_of p)
-          c.note-words.ensures.holds c.give-answers.ensures t.outcomes t.out t.is
+          c.note_words.ensures.holds c.give_answers.ensures t.outcomes t.out t.is
           ∙ ap (λ o. contents c.args.out.now ++ if_refused o (refused_gives s) (words_give c.args.wire p c.args.tags s)) (sym t.refused);
       errors = refl;
       so = λ e. (t.so, t.sends);

@@ -19,8 +19,8 @@ seal-requires c = omega (arith, c.in-Some.ensures.wrote.0, hello_long c.args.hel
 pub returns : goal.returns
 returns c =
     let l : length c.args.self.now.bytes ≡ 65536 = search rules in
-    let b = in_place c.args.self.now.bytes c.write-hello.new.out (bytes_of_hello c.args.hello) c.args.self.now.used (c.args.self.now.used + 3) c.in-Some.k (omega (arith, c.requires)) l (omega arith)
-    c.in-Some.ensures.wrote c.write-hello.auto.out in
+    let b = in_place c.args.self.now.bytes c.write_hello.new.out (bytes_of_hello c.args.hello) c.args.self.now.used (c.args.self.now.used + 3) c.in-Some.k (omega (arith, c.requires)) l (omega arith)
+    c.in-Some.ensures.wrote c.write_hello.auto.out in
     record {
       holds = c.seal.ensures.holds ∙ same_parcel c.args.wire b.front (ap sealed b.body);
       used = omega (arith, c.seal.ensures.used, c.in-Some.ensures.wrote.0, hello_long c.args.hello);

@@ -19,8 +19,8 @@ seal-requires c = omega (arith, c.in-Some.ensures.wrote.0, seens_small c.args.se
 pub returns : goal.returns
 returns c =
     let l : length c.args.self.now.bytes ≡ 65536 = search rules in
-    let b = in_place c.args.self.now.bytes c.write-seens.new.out (bytes_of_seens c.args.seens) c.args.self.now.used (c.args.self.now.used + 3) c.in-Some.k (omega (arith, c.requires.0)) l (omega arith)
-    c.in-Some.ensures.wrote c.write-seens.auto.out in
+    let b = in_place c.args.self.now.bytes c.write_seens.new.out (bytes_of_seens c.args.seens) c.args.self.now.used (c.args.self.now.used + 3) c.in-Some.k (omega (arith, c.requires.0)) l (omega arith)
+    c.in-Some.ensures.wrote c.write_seens.auto.out in
     record {
       holds = c.seal.ensures.holds ∙ same_parcel c.args.wire b.front (ap sealed b.body);
       used = omega (arith, c.seal.ensures.used, c.in-Some.ensures.wrote.0, seens_small c.args.seens c.requires.1 (search rules));

@@ -19,8 +19,8 @@ seal-requires c = omega (arith, c.in-Some.ensures.wrote.0, words_small c.args.wo
 pub returns : goal.returns
 returns c =
     let l : length c.args.self.now.bytes ≡ 65536 = search rules in
-    let b = in_place c.args.self.now.bytes c.write-words.new.out (bytes_of_words c.args.words) c.args.self.now.used (c.args.self.now.used + 3) c.in-Some.k (omega (arith, c.requires.0)) l (omega arith)
-    c.in-Some.ensures.wrote c.write-words.auto.out in
+    let b = in_place c.args.self.now.bytes c.write_words.new.out (bytes_of_words c.args.words) c.args.self.now.used (c.args.self.now.used + 3) c.in-Some.k (omega (arith, c.requires.0)) l (omega arith)
+    c.in-Some.ensures.wrote c.write_words.auto.out in
     record {
       holds = c.seal.ensures.holds ∙ same_parcel c.args.wire b.front (ap sealed b.body);
       used = omega (arith, c.seal.ensures.used, c.in-Some.ensures.wrote.0, words_small c.args.words c.requires.1);

@@ -18,8 +18,8 @@ close-requires c = omega (arith, c.in-Some.ensures.wrote.0, error_small c.args.m
 pub returns : goal.returns
 returns c =
     let l : length c.args.self.now.bytes ≡ 65536 = search rules in
-    let b = in_place c.args.self.now.bytes c.write-error.new.out (error_of c.args.me c.args.trouble c.args.packet.now) c.args.self.now.used (c.args.self.now.used + 3) c.in-Some.k (omega (arith, c.requires)) l (omega arith)
-    c.in-Some.ensures.wrote c.write-error.auto.out in
+    let b = in_place c.args.self.now.bytes c.write_error.new.out (error_of c.args.me c.args.trouble c.args.packet.now) c.args.self.now.used (c.args.self.now.used + 3) c.in-Some.k (omega (arith, c.requires)) l (omega arith)
+    c.in-Some.ensures.wrote c.write_error.auto.out in
     record {
       holds = c.close.ensures.holds ∙ same_parcel 8 b.front b.body;
       used = omega (arith, c.close.ensures.used, c.in-Some.ensures.wrote.0, error_small c.args.me c.args.trouble c.args.packet.now);

@@ -18,8 +18,8 @@ close-requires c = omega (arith, c.in-Some.ensures.wrote.0, line_small c.args.li
 pub returns : goal.returns
 returns c =
     let l : length c.args.self.now.bytes ≡ 65536 = search rules in
-    let b = in_place c.args.self.now.bytes c.write-line.new.out (bytes_of_line c.args.line) c.args.self.now.used (c.args.self.now.used + 3) c.in-Some.k (omega (arith, c.requires)) l (omega arith)
-    c.in-Some.ensures.wrote c.write-line.auto.out in
+    let b = in_place c.args.self.now.bytes c.write_line.new.out (bytes_of_line c.args.line) c.args.self.now.used (c.args.self.now.used + 3) c.in-Some.k (omega (arith, c.requires)) l (omega arith)
+    c.in-Some.ensures.wrote c.write_line.auto.out in
     record {
       holds = c.close.ensures.holds ∙ same_parcel 9 b.front b.body;
       used = omega (arith, c.close.ensures.used, c.in-Some.ensures.wrote.0, line_small c.args.line);

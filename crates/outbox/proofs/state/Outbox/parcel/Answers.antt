@@ -25,6 +25,6 @@ returns c =
     let n : c.from.result * 256 + c.from-2.result ≡ long_at c.args.self.now.bytes c.args.at = omega (arith, c.from.ensures, c.from-2.ensures) in
     let m : c.args.at + 3 + (c.from.result * 256 + c.from-2.result) - (c.args.at + 3) ≡ long_at c.args.self.now.bytes c.args.at = omega (arith, n) in
     taken c.args.self.now.bytes c.args.at c.args.self.now.used _ (omega arith) (omega (arith, n, c.if-at-self.false, c.if-self-at-lt3.false, c.if-self-at.false))
-    (search rules) (search rules) c.port-of.ensures
+    (search rules) (search rules) c.port_of.ensures
     (ap (λ z. take z (drop (c.args.at + 3) c.args.self.now.bytes)) m)
     (omega (arith, n))

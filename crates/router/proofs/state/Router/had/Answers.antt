@@ -14,6 +14,6 @@ loop-i-preserved c =
     let i = c.loop-i.i in
     elim c.if-self-i-gt0.branch [
       | then-self-i-gt0 w ↦
-          subst (λ (x : ℕ). HadTo (i + 1) x s) (sym w.had-is) (had_more i c.loop-i.had w.with-bit-had.result s c.loop-i.invariant (omega arith) (lt-ltb 0 (s.word i).number w.if-self-i-gt0.true) w.with-bit-had.ensures)
+          subst (λ (x : ℕ). HadTo (i + 1) x s) (sym w.had-is) (had_more i c.loop-i.had w.with_bit-had.result s c.loop-i.invariant (omega arith) (lt-ltb 0 (s.word i).number w.if-self-i-gt0.true) w.with_bit-had.ensures)
       | else-self-i-gt0 w ↦ subst (λ (x : ℕ). HadTo (i + 1) x s) (sym w.had-is) (had_not i c.loop-i.had s c.loop-i.invariant (le-ltb 0 (s.word i).number w.if-self-i-gt0.false))
     ]

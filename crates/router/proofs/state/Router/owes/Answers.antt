@@ -8,8 +8,8 @@ pub loop-x-init : goal.loop-x-init
 loop-x-init c = all_none (own_so_at (box_of c.args.self))
 
 pub loop-x-preserved : goal.loop-x-preserved
-loop-x-preserved c = all_more c.loop-x.x (own_so_at (box_of c.args.self)) c.loop-x.invariant (sym c.if-not-said-so.ensures)
+loop-x-preserved c = all_more c.loop-x.x (own_so_at (box_of c.args.self)) c.loop-x.invariant (sym c.if-not-said_so.ensures)
 
-pub returns-then-not-said-so : goal.returns-then-not-said-so
-returns-then-not-said-so c =
-    sym (ap not (all_not c.args.self.n c.loop-x.x (own_so_at (box_of c.args.self)) c.loop-x-test.true (sym c.if-not-said-so.ensures)))
+pub returns-then-not-said_so : goal.returns-then-not-said_so
+returns-then-not-said_so c =
+    sym (ap not (all_not c.args.self.n c.loop-x.x (own_so_at (box_of c.args.self)) c.loop-x-test.true (sym c.if-not-said_so.ensures)))

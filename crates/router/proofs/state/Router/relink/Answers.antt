@@ -8,9 +8,9 @@ use Rattle.router.proofs.state.Router.relink.Goals as goal
 
 pub returns : goal.returns
 returns c =
-    let l : length c.roads-from-costs.result ≡ 64 = search rules in
-    let m : length c.all-kept-shown.result ≡ 64 = search rules in
+    let l : length c.roads_from-costs.result ≡ 64 = search rules in
+    let m : length c.all_kept-shown.result ≡ 64 = search rules in
     let s = box_of c.args.self in
     let few = c.args.self.few in
-    let roads = all_roads c.args.links c.roads-from-costs.result s l few c.roads-from-costs.ensures in
-    same_box refl refl roads (λ i. refl) (all_shown c.args.links c.roads-from-costs.result c.all-kept-shown.result (bit c.args.anew) s m few roads c.all-kept-shown.ensures)
+    let roads = all_roads c.args.links c.roads_from-costs.result s l few c.roads_from-costs.ensures in
+    same_box refl refl roads (λ i. refl) (all_shown c.args.links c.roads_from-costs.result c.all_kept-shown.result (bit c.args.anew) s m few roads c.all_kept-shown.ensures)

@@ -16,12 +16,12 @@ pub returns : goal.returns
 returns c =
     let l : length c.args.self.links ≡ 64 = search rules in
     let m : length c.args.self.shown ≡ 64 = search rules in
-    let none = sym c.road-refusal.ensures ∙ c.in-default.is in
+    let none = sym c.road_refusal.ensures ∙ c.in-default.is in
     let inside : c.args.to < 64 = search rules in
     let roads = c.args.self.links in
     let s = box_of c.args.self in
     let is =
     same_box refl refl
     (λ e. get_or_row roads c.args.to 64 c.args.cost 0 l inside e ∙ sym (ap (λ b. cond b (row c.args.to c.args.cost (at roads)) (at roads) e) (road_allowed c.args.to c.args.cost s none)))
-    (λ i. refl) (bit_row c.args.self.shown c.args.to 64 c.still-shown.result _ m inside c.still-shown.ensures) in
+    (λ i. refl) (bit_row c.args.self.shown c.args.to 64 c.still_shown.result _ m inside c.still_shown.ensures) in
     record { refused = none; is = is; so = λ es st. stands_as_lem (Road s.me c.args.to c.args.cost ∷ es) is (road_so s es c.args.to c.args.cost st) }

@@ -10,6 +10,6 @@ returns c =
     let s = c.args.self in
     let b = box_of s.router in
     record {
-      inside = λ h. c.hop-at.ensures ∙ next_had (map_in b) b.me s.far s.next s.ways c.args.to h;
+      inside = λ h. c.hop_at.ensures ∙ next_had (map_in b) b.me s.far s.next s.ways c.args.to h;
       beyond = λ h. absurd (omega arith);
     }

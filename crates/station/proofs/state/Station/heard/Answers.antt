@@ -21,26 +21,26 @@ settled-station-requires c =
     let p = c.args.words in
     let fits = eqb p.drawn c.last.result in
     let ts = take p.count c.args.tags in
-    subst (λ (b : Box). Joined (with_box b s)) (sym c.hear-all.ensures.is)
+    subst (λ (b : Box). Joined (with_box b s)) (sym c.hear_all.ensures.is)
     (joined_roads s (takes_all fits c.args.from (bundle_of p).items ts s.box) (joined_had s c.args.self.joined) (all_roads fits c.args.from (bundle_of p).items ts s.box))
 
-pub seens-for-requires : goal.seens-for-requires
-seens-for-requires c =
+pub seens_for-requires : goal.seens_for-requires
+seens_for-requires c =
     let s = station_of c.args.self in
     let p = c.args.words in
     let fits = eqb p.drawn c.last.result in
     let same : (station_of c.settled-station.result).box.n ≡ s.box.n =
-    ap (λ (u : Station). u.box.n) c.settled-station.ensures ∙ ap (λ (b : Box). b.n) c.hear-all.ensures.is
+    ap (λ (u : Station). u.box.n) c.settled-station.ensures ∙ ap (λ (b : Box). b.n) c.hear_all.ensures.is
     ∙ (all_roads fits c.args.from (bundle_of p).items (take p.count c.args.tags) s.box).boxes in
     (c.requires.0, subst (λ (i : ℕ). any_in (is_out i) p.count (ids_of p.items) ≡ false) (sym same) c.requires.1.1.1.0)
 
-pub news-for-requires : goal.news-for-requires
-news-for-requires c =
+pub news_for-requires : goal.news_for-requires
+news_for-requires c =
     let s = station_of c.args.self in
     let p = c.args.words in
     let fits = eqb p.drawn c.last.result in
     let same : (station_of c.settled-station.result).box.n ≡ s.box.n =
-    ap (λ (u : Station). u.box.n) c.settled-station.ensures ∙ ap (λ (b : Box). b.n) c.hear-all.ensures.is
+    ap (λ (u : Station). u.box.n) c.settled-station.ensures ∙ ap (λ (b : Box). b.n) c.hear_all.ensures.is
     ∙ (all_roads fits c.args.from (bundle_of p).items (take p.count c.args.tags) s.box).boxes in
     (c.requires.0, subst (λ (i : ℕ). any_in (is_out i) p.count (ids_of p.items) ≡ false) (sym same) c.requires.1.1.1.0)
 
@@ -52,16 +52,16 @@ returns c =
     let p = c.args.words in
     let xs = (bundle_of p).items in
     let ts = take p.count c.args.tags in
-    let seens = showing_as c.drawn-drawn.ensures c.seens-for.ensures in
-    let words = carries_as c.drawn-drawn.ensures refl c.news-for.ensures in
+    let seens = showing_as c.drawn-drawn.ensures c.seens_for.ensures in
+    let words = carries_as c.drawn-drawn.ensures refl c.news_for.ensures in
     record {
       is = c.settled-station.ensures
-          ∙ same_station {t = heard_words e (bundle_of p) ts s} refl (c.hear-all.ensures.is ∙ ap (λ (k : ℕ). takes_all (eqb p.drawn k) e xs ts s.box) c.last.ensures);
+          ∙ same_station {t = heard_words e (bundle_of p) ts s} refl (c.hear_all.ensures.is ∙ ap (λ (k : ℕ). takes_all (eqb p.drawn k) e xs ts s.box) c.last.ensures);
       wire = c.lowest.ensures;
       seens = seens;
       words = words;
-      outcomes = λ j. c.hear-all.ensures.outcomes j ∙ ap (λ (k : ℕ). get_or (outcomes_in (eqb p.drawn k) e p.count p.items c.args.tags s.box) j None) c.last.ensures;
-      out = ap (λ (w : ℕ). answer_on w c.seens-for.result c.news-for.result) c.lowest.ensures
-          ∙ ap₂ (λ (a b : List Out). a ++ b) (shown_out e r.links.drawn c.seens-for.result (seens_for xs r.box) r.links refl seens)
-          (packet_out e r.links.drawn c.news-for.result (news_for xs r.box) r.links refl words);
+      outcomes = λ j. c.hear_all.ensures.outcomes j ∙ ap (λ (k : ℕ). get_or (outcomes_in (eqb p.drawn k) e p.count p.items c.args.tags s.box) j None) c.last.ensures;
+      out = ap (λ (w : ℕ). answer_on w c.seens_for.result c.news_for.result) c.lowest.ensures
+          ∙ ap₂ (λ (a b : List Out). a ++ b) (shown_out e r.links.drawn c.seens_for.result (seens_for xs r.box) r.links refl seens)
+          (packet_out e r.links.drawn c.news_for.result (news_for xs r.box) r.links refl words);
     }

@@ -13,8 +13,8 @@ use Rattle.station.proofs.Admitted.{admitted, teller_is}
 use Rattle.station.proofs.Seeing.{seen_joined, seen_map, seen_self}
 use Rattle.station.proofs.state.Station.hears_seens.Goals as goal
 
-pub seen-all-router-requires : goal.seen-all-router-requires
-seen-all-router-requires c =
+pub seen_all-router-requires : goal.seen_all-router-requires
+seen_all-router-requires c =
     let s = station_of c.args.self in
     let e = c.in-Ok.from in
     let is = teller_is c.args.wire s e (joined_had s c.args.self.joined) c.in-Ok.ensures.from in
@@ -26,7 +26,7 @@ rejoined-requires c =
     let s = station_of c.args.self in
     let e = c.in-Ok.from in
     let xs = (seens_of c.args.seens).items in
-    let q = c.seen-all-router.ensures in (
+    let q = c.seen_all-router.ensures in (
       subst (λ (b : Box). Joined (with_box b s)) (sym q) (seen_joined e xs s (joined_had s c.args.self.joined)),
       (ap map_in q ∙ seen_map e xs s.box, ap (λ (b : Box). b.me) q ∙ seen_self e xs s.box),
     )
@@ -49,7 +49,7 @@ returns-else-seens-last c =
     let e = c.in-Ok.from in
     let p = seens_of c.args.seens in
     let fits = ap (λ (b : Bool). with_box (cond b (sees_all e p.items s.box) s.box) s) (eq-eqb p.drawn (s.links.last e) (c.if-seens-last.false ∙ c.last.ensures)) in
-    let is : station_of c.rejoined.result ≡ heard_seens e p s = c.rejoined.ensures ∙ same_station {t = with_box (sees_all e p.items s.box) s} refl c.seen-all-router.ensures ∙ sym fits in
+    let is : station_of c.rejoined.result ≡ heard_seens e p s = c.rejoined.ensures ∙ same_station {t = with_box (sees_all e p.items s.box) s} refl c.seen_all-router.ensures ∙ sym fits in
     record {
       refused = c.in-Ok.ensures.refused;
       is = is ∙ sym (ap (λ (o : Option ℕ). seens_from o p s) c.in-Ok.ensures.from);

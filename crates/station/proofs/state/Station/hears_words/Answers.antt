@@ -18,7 +18,7 @@ heard-requires c =
     let p = c.args.words in
     let is = teller_is c.args.wire s c.in-Ok.from (joined_had s c.args.self.joined) c.in-Ok.ensures.from in
     let from = teller c.args.wire s.links in
-    let fine = admitted s.box.n from p.count (ids_of p.items) (ap (λ (xs : List WordId). packet_refusal s.box.n from p.count xs) (sym c.ids-of.ensures) ∙ c.in-Ok.ensures.refused) in
+    let fine = admitted s.box.n from p.count (ids_of p.items) (ap (λ (xs : List WordId). packet_refusal s.box.n from p.count xs) (sym c.ids_of.ensures) ∙ c.in-Ok.ensures.refused) in
     (fine.0, (is.0, (is.1, fine.1)))
 
 pub returns-in-Ok : goal.returns-in-Ok
@@ -33,7 +33,7 @@ returns-in-Ok c =
     let j = joined_had s c.args.self.joined in
     let l : length p.items ≡ 4 = search rules in
     let m : length c.args.tags ≡ 4 = search rules in
-    let refused = ap (λ (xs : List WordId). packet_refusal s.box.n from p.count xs) (sym c.ids-of.ensures) ∙ c.in-Ok.ensures.refused in
+    let refused = ap (λ (xs : List WordId). packet_refusal s.box.n from p.count xs) (sym c.ids_of.ensures) ∙ c.in-Ok.ensures.refused in
     let fine = admitted s.box.n from p.count (ids_of p.items) refused in
     let all : station_of c.heard.result.station ≡ words_from from (bundle_of p) ts s = done.is ∙ ap (λ (o : Option ℕ). words_from o (bundle_of p) ts s) is in
     let size : r.box.n ≡ s.box.n =

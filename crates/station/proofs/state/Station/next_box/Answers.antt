@@ -13,6 +13,6 @@ returns c =
     let s = c.args.self.now in
     let b = box_of s.router in
     record {
-      inside = λ h. c.hop-at.ensures ∙ next_had (map_in b) b.me s.far s.next s.ways c.args.to h;
-      beyond = λ h. nowhere_is c.hop-at.result (c.hop-at.ensures ∙ none_had (map_in b) b.me s.far s.next s.ways c.args.to h c.if-to-ge64.false);
+      inside = λ h. c.hop_at.ensures ∙ next_had (map_in b) b.me s.far s.next s.ways c.args.to h;
+      beyond = λ h. nowhere_is c.hop_at.result (c.hop_at.ensures ∙ none_had (map_in b) b.me s.far s.next s.ways c.args.to h c.if-to-ge64.false);
     }

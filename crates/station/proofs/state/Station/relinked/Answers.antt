@@ -18,7 +18,7 @@ rejoined-requires c =
     let j = joined_had s c.args.self.joined in
     let q = c.relink.ensures in (
       subst Joined (sym (same_station {t = relink_as after s} refl
-          (q ∙ relink_is s after (at c.all-roads-roads.result) (bit c.heard-anew-anew.result) j c.requires.0 c.requires.1.0 c.requires.1.1 c.args.self.router.few c.all-roads-roads.ensures c.heard-anew-anew.ensures)))
+          (q ∙ relink_is s after (at c.all_roads-roads.result) (bit c.heard_anew-anew.result) j c.requires.0 c.requires.1.0 c.requires.1.1 c.args.self.router.few c.all_roads-roads.ensures c.heard_anew-anew.ensures)))
           (joined_relinked s after j c.requires.0 c.requires.1.0 c.requires.1.1),
       (ap map_in q, ap (λ (b : Box). b.me) q),
     )
@@ -29,4 +29,4 @@ returns c =
     let after = links_of c.args.links in
     let j = joined_had s c.args.self.joined in
     c.rejoined.ensures ∙ same_station {t = relink_as after s} refl
-    (c.relink.ensures ∙ relink_is s after (at c.all-roads-roads.result) (bit c.heard-anew-anew.result) j c.requires.0 c.requires.1.0 c.requires.1.1 c.args.self.router.few c.all-roads-roads.ensures c.heard-anew-anew.ensures)
+    (c.relink.ensures ∙ relink_is s after (at c.all_roads-roads.result) (bit c.heard_anew-anew.result) j c.requires.0 c.requires.1.0 c.requires.1.1 c.args.self.router.few c.all_roads-roads.ensures c.heard_anew-anew.ensures)

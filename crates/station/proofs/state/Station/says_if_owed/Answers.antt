@@ -11,4 +11,4 @@ use Rattle.station.proofs.state.Station.says_if_owed.Goals as goal
 pub settled-requires : goal.settled-requires
 settled-requires c =
     let s = station_of c.args.self in
-    subst (λ (b : Box). Joined (with_box b s)) (sym c.says-owed-said.ensures.is) (joined_said c.args.tag s (joined_had s c.args.self.joined))
+    subst (λ (b : Box). Joined (with_box b s)) (sym c.says_owed-said.ensures.is) (joined_said c.args.tag s (joined_had s c.args.self.joined))

@@ -21,9 +21,9 @@ pub returns-in-Ok : goal.returns-in-Ok
 returns-in-Ok c =
     let s = station_of c.args.self in
     let t = c.args.tag in
-    let done = c.says-if-owed-said.ensures in
+    let done = c.says_if_owed-said.ensures in
     let q : station_of c.relinked.result ≡ relink_as (passes s.links) s = c.relinked.ensures ∙ ap (λ (l : Links). relink_as l s) c.in-Ok.ensures.is in
-    let r = c.says-if-owed-said.result.0 in
+    let r = c.says_if_owed-said.result.0 in
     let is = same_station {t = ticks t s} (done.links ∙ ap (λ (u : Station). u.links) q) (done.is ∙ ap (λ (u : Station). says_if_owed t u.box) q) in
     record {
       refused = search rules;
@@ -31,7 +31,7 @@ returns-in-Ok c =
       so = tick_did_lem t s (station_of r) (joined_had s c.args.self.joined) is;
       tells = tells_did_lem (station_of r) (joined_had (station_of r) r.joined);
       said = done.said ∙ ap (λ (u : Station). says_word u.box) q;
-      hellos = c.all-hellos.ensures;
-      words = c.all-words.ensures;
-      out = all_out c.all-words.result (station_of c.says-if-owed-said.result.0) c.all-words.ensures c.all-hellos.result c.all-hellos.ensures;
+      hellos = c.all_hellos.ensures;
+      words = c.all_words.ensures;
+      out = all_out c.all_words.result (station_of c.says_if_owed-said.result.0) c.all_words.ensures c.all_hellos.result c.all_hellos.ensures;
     }
