@@ -1,5 +1,5 @@
 -- One turn is a byte step, by the table; and at the end nothing is left.
-use Rattle.std.proofs.Common.{◌≡◌, ℕ, ◌+◌, ◌/◌, ◌%◌, ◌<◌, get_or, drop, sym, ap, ◌∙◌, arith}
+use Rattle.std.proofs.Common.{ℕ, ◌+◌, ◌<◌, get_or, drop, sym, ap, ◌∙◌}
 use lib.Bits.{bit_xor}
 use Rattle.std.proofs.lemmas.List.{at_drop_more, at_drop_all}
 use Rattle.checksum.specs.Crc.{crc_from, crc_of}
