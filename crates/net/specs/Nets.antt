@@ -1,5 +1,5 @@
 -- The net that some boxes are, and whether it is at rest. Assumes nothing.
-use Rattle.std.specs.Prelude.{◌≡◌, ℕ, zero, suc, ◌<◌, Bool, true, false, cond, not, ◌&&◌, ◌||◌, List, [], ◌∷◌, length, ◌==◌, nat_lt}
+use Rattle.std.specs.Prelude.{◌≡◌, ℕ, zero, suc, ◌<◌, Bool, not, ◌&&◌, ◌||◌, List, [], ◌∷◌, length, ◌==◌, nat_lt}
 use Rattle.model.specs.Box.{Box, begun, must_say}
 use Rattle.model.specs.Code.{same_word}
 use Rattle.model.specs.Promise.{all_below}

@@ -1,8 +1,8 @@
 -- What a call that isn't refused may count on.
-use Rattle.std.proofs.Common.{◌≡◌, ℕ, ◌+◌, ◌<◌, Bool, true, false, cond, not, ◌&&◌, ◌||◌, eqb, ltb, leb, Some, None, Option, sym, refl, ap, ◌∙◌, arith}
+use Rattle.std.proofs.Common.{◌≡◌, ℕ, Bool, true, false, cond, not, ◌&&◌, ◌||◌, eqb, ltb, leb, Some, None, Option, refl, ap, ◌∙◌, arith}
 use Rattle.model.specs.Box.{Box, is_open}
 use Rattle.router.specs.declared.answers.Refusal.{Refusal}
-use Rattle.router.specs.declared.answers.Refusal.TheVariants.{OutOfRange, NoRoad, CountSpent}
+use Rattle.router.specs.declared.answers.Refusal.TheVariants.{OutOfRange}
 use Rattle.router.specs.State.{open_below, road_refusal}
 use Rattle.router.proofs.Laws.{eqb_comm}
 

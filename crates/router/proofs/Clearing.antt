@@ -1,6 +1,6 @@
 -- What is shown but for the words of box i, row after row.
-use Rattle.std.proofs.Common.{◌≡◌, ℕ, ◌+◌, ◌<◌, ◌≤◌, Bool, true, false, cond, not, ◌&&◌, eqb, ltb, List, length, set, sym, refl, ap, ◌∙◌, ap₂, ltb-false, ltb-true, lt-ltb, eqb-true}
-use mathlib.Core.Bool.{and-false, and-true, and_comm}
+use Rattle.std.proofs.Common.{◌≡◌, ℕ, ◌+◌, ◌<◌, Bool, true, false, cond, not, ◌&&◌, eqb, ltb, List, length, set, sym, refl, ap, ◌∙◌, ltb-false, eqb-true}
+use mathlib.Core.Bool.{and-false}
 use Rattle.bits.specs.Bits.{bit}
 use Rattle.messages.specs.Values.{at}
 use Rattle.router.proofs.Tables.{get_or_row, bit_at_past}

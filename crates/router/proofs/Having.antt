@@ -1,13 +1,10 @@
 -- The boxes of which a box has a word, as bits, one after the other.
-use Rattle.std.proofs.Common.{◌≡◌, ℕ, ◌+◌, ◌<◌, ◌≤◌, Bool, true, false, not, ◌&&◌, ◌||◌, eqb, ltb, sym, refl, ap, ◌∙◌, zero-le, arith, le-ltb, lt-ltb, eqb-true}
+use Rattle.std.proofs.Common.{◌≡◌, ℕ, ◌+◌, ◌<◌, Bool, true, false, ◌&&◌, ◌||◌, eqb, ltb, sym, refl, ap, ◌∙◌, zero-le, le-ltb, lt-ltb, eqb-true}
 use mathlib.Core.Bool.{and-false}
-use Rattle.std.proofs.lemmas.Bool.{ltb-false}
 use Rattle.bits.specs.Bits.{bit}
 use Rattle.bits.proofs.OfBits.{bit_none}
-use Rattle.bits.proofs.Picks.{pick_short, pick_same}
-use Rattle.model.specs.Box.{Box, tells}
-use Rattle.model.specs.Code.{pick}
-use Rattle.router.proofs.Laws.{ltb_next, ltb_self, ltb_other}
+use Rattle.model.specs.Box.{Box}
+use Rattle.router.proofs.Laws.{ltb_next, ltb_other}
 
 abbrev pub HadTo : ℕ → ℕ → Box → Type 0
 HadTo k x s = (j : ℕ) → bit x j ≡ (ltb j k && ltb 0 (s.word j).number)

@@ -1,14 +1,13 @@
 -- What the state and the answers of a box stand for in the model. Assumes nothing.
-use Rattle.std.specs.Prelude.{◌≡◌, ℕ, zero, suc, ◌+◌, ◌^◌, ◌<◌, ◌≤◌, Bool, true, false, cond, not, ◌&&◌, ◌||◌, List, [], ◌∷◌, Some, None, Ok, Err, Option, Result, ◌==◌, nat_le, nat_lt, slice_index_or}
+use Rattle.std.specs.Prelude.{◌≡◌, ℕ, zero, suc, ◌+◌, ◌^◌, Bool, cond, not, ◌&&◌, ◌||◌, [], Some, None, Ok, Err, Option, Result, ◌==◌, nat_le, nat_lt, slice_index_or}
 use Rattle.bits.specs.Bits.{bit}
 use Rattle.messages.specs.Values.{at, entry_of, told_by}
 use Rattle.messages.specs.declared.values.Word.{Word}
 use Rattle.messages.specs.declared.values.WordId.{WordId}
-use Rattle.model.specs.Box.{Box, is_open, is_new_to, must_say}
+use Rattle.model.specs.Box.{Box, is_open, is_new_to}
 use Rattle.model.specs.Code.{same_word}
 use Rattle.model.specs.Map.{Hop as Next}
 use Rattle.model.specs.Map.{Nowhere as NoNext, To as Onto}
-use Rattle.model.specs.Words.{Entry, newer}
 use Rattle.router.specs.declared.answers.Hop.{Hop}
 use Rattle.router.specs.declared.answers.Hop.TheVariants.{Nowhere, To}
 use Rattle.router.specs.declared.answers.Outcome.{Outcome}

@@ -2,6 +2,8 @@
 //
 // It knows the model, the values of `messages`, set bits and least ways; nothing of bytes, wires or hellos.
 // Each call's contract says the whole state it leaves, by the model's definition of that call, and which events of the model it did.
+#![tactic(auto)]
+
 mod answers;
 mod relinking;
 mod roads;

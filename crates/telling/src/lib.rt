@@ -1,3 +1,5 @@
+#![tactic(auto)]
+
 // What a box tells its neighbours, and what it does at a tick.
 //
 // It knows the state of a box by its calls alone. It promises which words are named to each neighbour, and that a tick is the model's.

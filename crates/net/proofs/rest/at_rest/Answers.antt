@@ -1,4 +1,4 @@
-use Rattle.std.proofs.Common.{◌≡◌, ℕ, true, false, length, sym, refl, subst, arith}
+use Rattle.std.proofs.Common.{◌≡◌, ℕ, true, length, sym, refl, subst, arith}
 use borrow.Author.Tests.{both_ways, clash}
 use Rattle.model.specs.Promise.{all_below}
 use Rattle.net.specs.Nets.{calm_at}

@@ -1,4 +1,4 @@
-use Rattle.std.proofs.Common.{◌≡◌, ℕ, ◌≤◌, Bool, true, length, sym, ◌∙◌, subst, inl, inr, arith}
+use Rattle.std.proofs.Common.{◌≡◌, ℕ, true, length, sym, ◌∙◌, subst, inl, inr, arith}
 use Rattle.model.specs.Promise.{all_below}
 use Rattle.net.specs.Nets.{agrees_with, box_in}
 use Rattle.net.proofs.Alls.{all_none, all_more}

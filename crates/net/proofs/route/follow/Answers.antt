@@ -1,6 +1,6 @@
-use Rattle.std.proofs.Common.{◌≡◌, ℕ, ◌+◌, ◌-◌, ◌<◌, ◌≤◌, length, sym, refl, ap, ◌∙◌, subst, arith}
+use Rattle.std.proofs.Common.{◌≡◌, ◌+◌, ◌-◌, ◌<◌, length, sym, refl, ap, ◌∙◌, subst, arith}
 use Rattle.model.specs.Boxes.{follows}
-use Rattle.model.specs.Forward.{End, Arrived, Refused, Worn}
+use Rattle.model.specs.Forward.{Arrived, Refused, Worn}
 use Rattle.model.specs.Map.{Nowhere, To}
 use Rattle.net.specs.Nets.{box_in, Numbered}
 use Rattle.net.proofs.Calm.{box_read}

@@ -1,5 +1,5 @@
 -- Arrays of zeros are the state of a box that was just switched on.
-use Rattle.std.proofs.Common.{◌≡◌, ℕ, sym, refl, ap, ◌∙◌}
+use Rattle.std.proofs.Common.{ℕ, refl, ap, ◌∙◌}
 use Rattle.bits.specs.Bits.{bit}
 use Rattle.bits.proofs.OfBits.{bit_none}
 use Rattle.router.proofs.Tables.{at_zeros, at_zero_rows}

@@ -1,5 +1,4 @@
 -- The boxes below i of which it has a word.
-use Rattle.std.proofs.Common.{◌≡◌}
 use Rattle.router.specs.State.{box_of}
 use Rattle.router.proofs.Having.{HadTo}
 use Rattle.router.proofs.state.Router.had.Given as goal

@@ -1,5 +1,5 @@
 -- Who is heard anew has shown nothing.
-use Rattle.std.proofs.Common.{◌≡◌, not, ◌&&◌, ltb, sym, ap, ◌∙◌}
+use Rattle.std.proofs.Common.{not, ◌&&◌, ltb, ap, ◌∙◌}
 use Rattle.bits.proofs.OfBits.{bit_none}
 use Rattle.model.specs.Box.{is_open}
 use Rattle.router.specs.State.{box_of}

@@ -1,5 +1,5 @@
 -- Each open road counts one.
-use Rattle.std.proofs.Common.{◌≡◌, ℕ, ◌+◌, sym, refl, ap, ◌∙◌, arith, le-ltb, lt-ltb}
+use Rattle.std.proofs.Common.{ℕ, ◌+◌, sym, refl, ap, ◌∙◌, arith, le-ltb, lt-ltb}
 use Rattle.router.specs.State.{box_of, open_below}
 use Rattle.router.proofs.Laws.{open_counts, shut_counts}
 use Rattle.router.proofs.state.Router.open_roads.Goals as goal

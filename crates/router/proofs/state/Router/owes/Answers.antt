@@ -1,5 +1,5 @@
 -- One road of which it isn't so is enough.
-use Rattle.std.proofs.Common.{not, sym, ap, ◌∙◌}
+use Rattle.std.proofs.Common.{not, sym, ap}
 use Rattle.router.specs.State.{box_of, own_so_at}
 use Rattle.router.proofs.Laws.{all_none, all_more, all_not}
 use Rattle.router.proofs.state.Router.owes.Goals as goal

@@ -1,9 +1,7 @@
 -- One element of the roads and one row of what is shown are replaced.
-use Rattle.std.proofs.Common.{◌≡◌, ℕ, ◌<◌, Bool, cond, ◌&&◌, eqb, ltb, ◌∷◌, length, sym, refl, ap, ◌∙◌, arith, rules}
-use Rattle.bits.specs.Bits.{bit}
+use Rattle.std.proofs.Common.{◌≡◌, ◌<◌, cond, ◌∷◌, length, sym, refl, ap, ◌∙◌, rules}
 use Rattle.messages.specs.Values.{at}
 use Rattle.model.specs.Flood.{row}
-use Rattle.model.specs.Box.{road_is}
 use Rattle.model.specs.Words.{Road}
 use Rattle.router.specs.State.{box_of}
 use Rattle.router.proofs.Allowed.{road_allowed}

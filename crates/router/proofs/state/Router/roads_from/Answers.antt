@@ -1,5 +1,5 @@
 -- All are 0 at first.
-use Rattle.std.proofs.Common.{◌≡◌, refl, arith}
+use Rattle.std.proofs.Common.{refl, arith}
 use Rattle.router.proofs.Tables.{at_zeros}
 use Rattle.router.proofs.state.Router.roads_from.Goals as goal
 
