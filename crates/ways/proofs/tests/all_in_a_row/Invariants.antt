@@ -3,4 +3,4 @@ use Rattle.std.proofs.Common.{◌≡◌, length}
 use Rattle.ways.proofs.tests.all_in_a_row.Given as goal
 
 abbrev pub invariant-loop-i : goal.invariant-loop-i
-invariant-loop-i l = length l.costs ≡ 64
+invariant-loop-i g l = length l.costs ≡ 64
