@@ -2,6 +2,8 @@
 //
 // It knows the state of wires and of words by their calls alone; nothing of bytes, or of who calls it when.
 // Each call's contract says the whole state it leaves, by the model's definition of that call. Between any two calls the roads are those that the wires hold open, and the tables are those of the words that the box has.
+#![tactic(auto)]
+
 mod answering;
 mod answers;
 mod changes;

@@ -1,4 +1,4 @@
-use Rattle.std.proofs.Common.{◌≡◌, ℕ, ◌<◌, true, cond, ltb, Some, None, sym, ap, ◌∙◌, subst, arith, lt-ltb}
+use Rattle.std.proofs.Common.{ℕ, ◌<◌, cond, Some, None, sym, ap, ◌∙◌, subst, arith, lt-ltb}
 use Rattle.hello.specs.State.{links_of}
 use Rattle.linkmodel.specs.Links.{road_cost}
 use Rattle.linkmodel.specs.Station.{wire_to}
