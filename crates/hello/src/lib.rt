@@ -2,6 +2,8 @@
 //
 // It knows the model of wires and the values of `messages`; nothing of bytes, of words, or of who calls it when.
 // Each call's contract says the whole state it leaves, by the model's definition of that call.
+#![tactic(auto)]
+
 mod answers;
 mod changes;
 mod contacts;

@@ -1,6 +1,8 @@
 // The theorems about nets of boxes, each carried by the contract of a function, so that the gate asks for its proof.
 //
 // The statements and their proofs are in `model` and `linkmodel`; there is no code here to run. Start with `whole`: it is the promise of the whole.
+#![tactic(auto)]
+
 mod wires;
 
 ghost use Rattle.model.specs.Boxes.{BoxIsCode, TakesSo, FallSo, TickSo, EveryBoxStands, BoxesDeliver};
