@@ -1,7 +1,7 @@
 -- The bit step of the CRC is linear over exclusive or, halves what is even, and loses nothing of 32 bits.
 -- Assumes nothing.
-use Rattle.std.proofs.Common.{◌≡◌, ℕ, zero, suc, ◌+◌, ◌*◌, ◌/◌, ◌%◌, ◌^◌, ◌<◌, ◌≤◌, true, false, cond, eqb, ◌⊎◌, sym, refl, ap, ◌∙◌, subst, ap₂, inl, inr, add-zero, mod-lt, mul_assoc, mul_comm, pow-suc, arith, lit<}
-use lib.Bits.{bit_xor, xor_shr, xor_mod, xor_comm, xor_assoc, xor_self, xor_zero_r, xor_lt, shifted_half, shifted_even}
+use Rattle.std.proofs.Common.{◌≡◌, ℕ, zero, suc, ◌+◌, ◌*◌, ◌/◌, ◌%◌, ◌^◌, ◌<◌, cond, eqb, ◌⊎◌, sym, refl, ap, ◌∙◌, ap₂, inl, inr, mul_assoc, pow-suc, arith, lit<}
+use lib.Bits.{bit_xor, xor_shr, xor_mod, xor_comm, xor_assoc, xor_self, xor_zero_r, xor_lt}
 use Rattle.std.proofs.lemmas.Bool.{cond_both}
 use Rattle.checksum.specs.Crc.{crc_bit, crc_bits}
 

@@ -1,8 +1,8 @@
 -- The sum in one's complement is the plain sum of the words, less a multiple of 65535; it is 0 only where that is.
 -- Assumes nothing.
-use Rattle.std.proofs.Common.{◌≡◌, ℕ, zero, suc, ◌+◌, ◌-◌, ◌*◌, ◌/◌, ◌%◌, ◌<◌, ◌≤◌, ◌≢◌, ◌⊎◌, List, [], ◌∷◌, length, get_or, set, sym, refl, ap, ◌∙◌, subst, ap₂, inl, inr, arith, get_or-set_other}
+use Rattle.std.proofs.Common.{◌≡◌, ℕ, zero, suc, ◌+◌, ◌*◌, ◌/◌, ◌%◌, ◌<◌, ◌≤◌, ◌≢◌, ◌⊎◌, List, [], ◌∷◌, length, get_or, set, sym, refl, ◌∙◌, subst, ap₂, inl, inr, arith, get_or-set_other}
 use Rattle.std.proofs.lemmas.Bool.{cases_order}
-use Rattle.checksum.proofs.Bytes.{bytes_at, bytes_set}
+use Rattle.checksum.proofs.Bytes.{bytes_set}
 use Rattle.checksum.specs.Bytes.{Bytes}
 use Rattle.checksum.specs.Internet.{words_of, ones_add, added_to, ones_sum, word_at, put_word, total, Leaves}
 

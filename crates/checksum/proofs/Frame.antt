@@ -1,13 +1,13 @@
 -- A frame as one number: the register after it is the bit steps of that number, so that what differs from a frame that fits in a run of 32 bits does not fit.
 -- Assumes nothing.
-use Rattle.std.proofs.Common.{◌≡◌, ℕ, zero, suc, ◌+◌, ◌-◌, ◌*◌, ◌/◌, ◌%◌, ◌^◌, ◌<◌, ◌≤◌, ◌⊎◌, List, [], ◌∷◌, ◌++◌, length, get_or, set, sym, refl, ap, ◌∙◌, subst, ap₂, inl, inr, add-zero, mod-eq_of_lt, mul_assoc, mul_comm, mul-le-mul_left, div-add-mod', arith, lit<, length-append, length-set, pow_pos, pow-add, shr-shr}
+use Rattle.std.proofs.Common.{◌≡◌, ℕ, zero, suc, ◌+◌, ◌-◌, ◌*◌, ◌/◌, ◌%◌, ◌^◌, ◌<◌, ◌≤◌, List, [], ◌∷◌, ◌++◌, length, get_or, set, sym, refl, ap, ◌∙◌, subst, ap₂, inl, inr, add-zero, mod-eq_of_lt, mul_assoc, mul_comm, mul-le-mul_left, div-add-mod', arith, lit<, length-append, length-set, pow_pos, pow-add, shr-shr}
 use lib.Bits.{bit_xor, bit_and, and_mask, xor_mod, xor_comm, xor_assoc, xor_self, xor_zero_r, xor_lt, xor_shifted, xor_shr, xor_block}
 use lib.Pow.{split as shr_split}
 use Rattle.std.proofs.lemmas.Bool.{cases_lt}
 use Rattle.checksum.proofs.Bytes.{bytes_left, bytes_set, bytes_at}
-use Rattle.checksum.proofs.Bit.{xor_cancel, xor_zero, xor_swap, bits_xor, bits_shifted, bits_add, bits_lt, bits_zero}
+use Rattle.checksum.proofs.Bit.{xor_zero, xor_swap, bits_xor, bits_shifted, bits_add, bits_lt, bits_zero}
 use Rattle.checksum.specs.Bytes.{Bytes}
-use Rattle.checksum.specs.Crc.{crc_bit, crc_bits, crc_byte, crc_from, crc_of, sum_bytes, low_first, SumFits, as_number, RunCaught, OneByteChanged}
+use Rattle.checksum.specs.Crc.{crc_bits, crc_byte, crc_from, crc_of, sum_bytes, low_first, as_number, RunCaught, OneByteChanged}
 
 -- ---- bytes as a number
 

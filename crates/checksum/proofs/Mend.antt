@@ -1,6 +1,6 @@
 -- A mended checksum is right, and is the one computed anew.
 -- Assumes nothing.
-use Rattle.std.proofs.Common.{◌≡◌, ℕ, zero, suc, ◌+◌, ◌-◌, ◌*◌, ◌/◌, ◌%◌, ◌<◌, ◌≤◌, ◌⊎◌, List, [], ◌∷◌, length, get_or, set, sym, refl, ap, ◌∙◌, subst, ap₂, inl, inr, arith, length-set, get_or-set_other}
+use Rattle.std.proofs.Common.{◌≡◌, ℕ, suc, ◌+◌, ◌-◌, ◌*◌, ◌/◌, ◌%◌, ◌<◌, ◌≤◌, List, length, get_or, set, sym, refl, ap, ◌∙◌, subst, ap₂, inl, inr, arith, length-set, get_or-set_other}
 use lib.Seq.{set-get_or}
 use Rattle.checksum.proofs.Bytes.{bytes_at}
 use Rattle.checksum.proofs.Folds.{Folds, leaves_same, folds_add, folds_same, sum_folds, total_pos, total_put, put_bytes, word_other}

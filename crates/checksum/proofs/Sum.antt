@@ -1,9 +1,9 @@
 -- A frame by its last four bytes and those before.
 -- Assumes nothing.
-use Rattle.std.proofs.Common.{◌≡◌, ℕ, ◌+◌, ◌-◌, ◌<◌, ◌≤◌, Bool, true, List, [], ◌∷◌, ◌++◌, length, take, drop, Decides, sym, refl, ap, ◌∙◌, subst, ap₂, arith, length-append, take-append-drop}
+use Rattle.std.proofs.Common.{◌≡◌, ℕ, ◌+◌, ◌-◌, ◌<◌, ◌≤◌, Bool, List, ◌++◌, length, take, drop, Decides, sym, refl, ap, ◌∙◌, arith, length-append, take-append-drop}
 use borrow.Rule.Slice.PartMut.{put_mid}
 use Rattle.std.proofs.lemmas.Bool.Decides.{Decides-like}
-use Rattle.std.proofs.lemmas.List.{append-nil, drop_all, take_all, take_at, drop_at}
+use Rattle.std.proofs.lemmas.List.{append-nil, drop_all, take_at, drop_at}
 use Rattle.std.proofs.lemmas.Slice.{put_mid-paste}
 use Rattle.checksum.specs.Crc.{crc_of, low_first, sum_bytes, SumFits}
 use Rattle.checksum.specs.Refused.{body_of}

@@ -1,9 +1,9 @@
 -- The words of what is left of a list: one more, a piece more, and at the end.
 -- Assumes nothing.
-use Rattle.std.proofs.Common.{◌≡◌, ℕ, zero, suc, ◌+◌, ◌-◌, ◌*◌, ◌%◌, ◌<◌, ◌≤◌, List, [], ◌∷◌, length, get_or, take, drop, sym, refl, ap, ◌∙◌, subst, add_assoc, arith}
+use Rattle.std.proofs.Common.{◌≡◌, ℕ, zero, suc, ◌+◌, ◌*◌, ◌%◌, ◌<◌, ◌≤◌, List, [], ◌∷◌, length, get_or, take, drop, sym, refl, ap, ◌∙◌, subst, add_assoc, arith}
 use Rattle.std.proofs.lemmas.List.{drop_more, drop_all, drop-drop}
 use Rattle.checksum.proofs.Bytes.{bytes_from}
-use Rattle.checksum.proofs.Folds.{Folds, folds_same, leaves_on, leaves_more, sum_folds}
+use Rattle.checksum.proofs.Folds.{folds_same, leaves_on, leaves_more, sum_folds}
 use Rattle.checksum.specs.Internet.{ones_sum, total, Leaves}
 
 pub total_two : (bytes : List ℕ) (i : ℕ) → i + 2 ≤ length bytes

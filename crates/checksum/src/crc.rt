@@ -84,7 +84,7 @@ pub fn sum_fits(frame: &[u8]) -> bool
         return false;
     }
     let (body, sum) = frame.split_at(frame.len() - 4);
-    sum == crc(body).to_le_bytes()
+    sum == crc(body).to_le_bytes().as_slice()
 }
 
 // Writes the sum of all but the last four bytes into the last four.

@@ -1,4 +1,6 @@
 // Known sums, as they stand on the wire. The tests run them.
+#![tactic(auto)]
+
 use checksum::crc::*;
 use checksum::internet::*;
 

@@ -1,5 +1,5 @@
 -- One turn is a byte step, by the table; and at the end nothing is left.
-use Rattle.std.proofs.Common.{◌≡◌, ℕ, ◌+◌, ◌/◌, ◌%◌, ◌<◌, get_or, drop, sym, ap, ◌∙◌, arith}
+use Rattle.std.proofs.Common.{ℕ, ◌+◌, ◌<◌, get_or, drop, sym, ap, ◌∙◌}
 use lib.Bits.{bit_xor}
 use Rattle.std.proofs.lemmas.List.{at_drop_more, at_drop_all}
 use Rattle.checksum.specs.Crc.{crc_from, crc_of}
@@ -11,7 +11,7 @@ pub loop-b-preserved : goal.loop-b-preserved
 loop-b-preserved c =
     let b = get_or c.args.bytes.now c.loop-b.b-index 0 in
     let rest = drop (c.loop-b.b-index + 1) c.args.bytes.now in
-    let l : b < 256 = (c.type-inv.bytes c.loop-b.b-index).fits in
+    let l : b < 256 = (c.type_inv.bytes c.loop-b.b-index).fits in
     ap (λ (r : ℕ). crc_from r rest) (sym (byte_by_table c.loop-b.c b c.eight_bits.result l c.eight_bits.ensures))
     ∙ sym (at_drop_more (crc_from c.loop-b.c) c.args.bytes.now c.loop-b.b-index 0 c.loop-b-test.true)
     ∙ c.loop-b.invariant

@@ -1,4 +1,5 @@
 -- The last four bytes are compared with the sum of the body.
+use Rattle.std.proofs.Common.{◌∙◌}
 use Rattle.std.proofs.lemmas.Slice.Eq.{slice_eq-Decides}
 use Rattle.std.proofs.lemmas.Bool.{false≢true}
 use Rattle.checksum.proofs.Frame.{one_byte_changed_lem, run_caught_lem}
@@ -18,9 +19,9 @@ pub returns : goal.returns
 returns c =
     record {
       fits =
-          fits_decides c.args.frame.now c.split_at.result.0.now c.split_at.result.1.now c.crc.result c.to_le_bytes.result c.eq.result
-          c.split_at.ensures.front c.split_at.ensures.back c.crc.ensures.value c.to_le_bytes.ensures
-          (slice_eq-Decides Decides-eqb c.split_at.result.1.now c.to_le_bytes.result c.eq.result c.eq.ensures);
+          fits_decides c.args.frame.now c.split_at.result.0.now c.split_at.result.1.now c.crc.result c.as_slice.result.now c.eq.result
+          c.split_at.ensures.front c.split_at.ensures.back c.crc.ensures.value (c.as_slice.ensures ∙ c.to_le_bytes.ensures)
+          (slice_eq-Decides Decides-eqb c.split_at.result.1.now c.as_slice.result.now c.eq.result c.eq.ensures);
       one_byte = one_byte_changed_lem;
       run = run_caught_lem;
     }

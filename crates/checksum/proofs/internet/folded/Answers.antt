@@ -4,8 +4,8 @@ use Rattle.checksum.specs.Internet.{Leaves}
 use Rattle.checksum.proofs.Folds.{leaves_on, leaves_fold}
 use Rattle.checksum.proofs.internet.folded.Goals as goal
 
-pub overflow-cast-result : goal.overflow-cast-result
-overflow-cast-result c = record { fits = omega arith }
+pub overflow_cast-result : goal.overflow_cast-result
+overflow_cast-result c = record { fits = omega arith }
 
 pub returns : goal.returns
 returns c =

@@ -3,8 +3,8 @@ use Rattle.std.proofs.Common.{arith}
 use Rattle.checksum.specs.Internet.{ones_add}
 use Rattle.checksum.proofs.internet.ones_add.Goals as goal
 
-pub overflow-cast-result : goal.overflow-cast-result
-overflow-cast-result c = record { fits = omega arith }
+pub overflow_cast-result : goal.overflow_cast-result
+overflow_cast-result c = record { fits = omega arith }
 
 pub returns : goal.returns
 unfolding ones_add

@@ -27,6 +27,6 @@ loop-i-preserved c =
 pub returns : goal.returns
 returns c =
     left_end c.args.bytes.now c.loop-i.i c.loop-i.sum c.plain_sum-2.result c.folded.result
-    (λ k. (c.type-inv.bytes k).fits)
+    (λ k. (c.type_inv.bytes k).fits)
     (c.plain_sum-2.ensures.value ∙ ap total (take_rest c.args.bytes.now c.loop-i.i))
-    c.loop-i.invariant.2 c.folded.ensures c.folded.type-inv
+    c.loop-i.invariant.2 c.folded.ensures c.folded.type_inv

@@ -7,7 +7,7 @@ pub loop-i-preserved : goal.loop-i-preserved
 loop-i-preserved c =
     let n = total_two c.args.piece.now c.loop-i.i (omega arith) in
     let w = c.from_be_bytes.ensures in
-    let a = (c.type-inv.piece c.loop-i.i).fits in
+    let a = (c.type_inv.piece c.loop-i.i).fits in
     (omega arith, omega arith, omega arith)
 
 pub returns-then-i-piece : goal.returns-then-i-piece
