@@ -2,6 +2,8 @@
 //
 // It may know numbers, and of the model only `pick`, the first few places that pass a test: nothing of boxes, roads or words.
 // It promises what every bit of an answer is, and takes any place: one of 64 or more is in no number, and changes none.
+#![tactic(auto)]
+
 ghost use Rattle.std.specs.Prelude.{◌≡◌, ℕ, not, ◌&&◌, ◌||◌, length, ◌==◌, nat_lt};
 ghost use Rattle.bits.specs.Bits.{bit, four_lowest, padded};
 

@@ -1,10 +1,10 @@
 -- Two boxes as the promises about both ends of a wire ask: each gets at once what the other sends, one of them only while a line holds.
-use Rattle.std.proofs.Common.{◌≡◌, ℕ, zero, suc, ◌+◌, ◌<◌, ◌≤◌, Bool, true, false, cond, ◌&&◌, ltb, ◌⊎◌, List, [], ◌∷◌, sym, refl, ap, ◌∙◌, subst, inl, inr, arith, ltb-true}
+use Rattle.std.proofs.Common.{◌≡◌, ℕ, zero, suc, ◌<◌, Bool, true, cond, ◌&&◌, ltb, List, [], ◌∷◌, sym, refl, ap, subst, inl, inr, arith, ltb-true}
 use Rattle.model.proofs.Tests.{of_cond, cond-true}
 use Rattle.linkmodel.proofs.Bools.{and_left, and_right, and_both}
-use Rattle.linkmodel.specs.Links.{Wire, Silent, Hello, Links, passes, hello_for, sends_hello}
+use Rattle.linkmodel.specs.Links.{Silent, Hello, Links, passes, hello_for, sends_hello}
 use Rattle.linkmodel.specs.Hellos.{Input, Hears, links_after}
-use Rattle.linkmodel.specs.Agreeing.{Run, links_at, ticked_at, is_of, SentLately, Fair, End, Came, Enough, CanAgree}
+use Rattle.linkmodel.specs.Agreeing.{Run, links_at, ticked_at, is_of, SentLately, Fair, End, Came, CanAgree}
 
 abbrev begin : ℕ → ℕ → Links
 begin me d = record { n = 2; me = me; drawn = d; tick = 0; cost = λ w. 1; wire = λ w. Silent; last = λ e. 0 }

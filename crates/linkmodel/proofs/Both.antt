@@ -1,15 +1,14 @@
 -- Where enough hellos come at both ends of a wire, both hold it open to each other.
-use Rattle.std.proofs.Common.{◌≡◌, ℕ, zero, suc, ◌+◌, ◌-◌, ◌%◌, ◌<◌, ◌≤◌, Bool, true, false, cond, not, ◌&&◌, ◌||◌, T, eqb, ltb, ◌⊎◌, List, [], ◌∷◌, ◌++◌, sym, refl, ap, ◌∙◌, subst, inl, inr, arith, le-ltb, lt-ltb, eq-eqb, ne_eqb, eqb-true}
+use Rattle.std.proofs.Common.{◌≡◌, ℕ, zero, suc, ◌+◌, ◌-◌, ◌≤◌, Bool, true, false, cond, not, eqb, ltb, ◌⊎◌, List, [], ◌∷◌, sym, refl, ap, ◌∙◌, subst, inl, inr, arith, le-ltb, eq-eqb, ne_eqb, eqb-true}
 use borrow.Author.Tests.{eqb-false}
-use Rattle.model.specs.Flood.{row}
 use Rattle.model.proofs.Tests.{of_cond, cond-true, cond-false}
 use Rattle.linkmodel.proofs.Bools.{decide}
-use Rattle.linkmodel.specs.Links.{Wire, Silent, Heard, Open, Hello, Links, wires, holds_for, hello_every, heard_on, aged, closed_to, taken, greeted, passes, hello_for, hears_hello}
+use Rattle.linkmodel.specs.Links.{Wire, Silent, Heard, Open, Hello, Links, holds_for, heard_on, aged, closed_to, taken, greeted, passes, hello_for}
 use Rattle.linkmodel.specs.Hellos.{Input, Passes, Hears, Rewires, Fell, meets, links_after, accepts}
 use Rattle.linkmodel.specs.Agreeing.{Run, links_at, ticked_at, is_of, when_on, SentLately, Fair, End, Enough, OpenTo, NoThird, BothOpen, BothOpenSooner}
-use Rattle.linkmodel.proofs.Wires.{shut_wire, heard_wire, aged_open, closed_open, accepting, row_at, row_off}
+use Rattle.linkmodel.proofs.Wires.{heard_wire, aged_open, closed_open, accepting, row_at, row_off}
 use Rattle.linkmodel.proofs.OpenJust.{greeted_here}
-use Rattle.linkmodel.proofs.Runs.{Steady, steady_meets, steady_passes, of_list, of_fair, steady_at, steady_ticked, sent_tenth, Arrival, arrival}
+use Rattle.linkmodel.proofs.Runs.{Steady, steady_meets, of_list, of_fair, steady_at, steady_ticked, sent_tenth, Arrival, arrival}
 
 -- the wire was heard of f under d at t; and it is open if that is asked
 abbrev pub Mark : Bool → ℕ → ℕ → ℕ → Wire → Type 0

@@ -1,13 +1,12 @@
 -- What an open wire means in a net: the box that it is open to has heard this one, in this life of both.
-use Rattle.std.proofs.Common.{◌≡◌, ℕ, zero, suc, ◌+◌, ◌<◌, ◌≤◌, Bool, true, false, cond, not, ◌&&◌, ◌||◌, T, eqb, ltb, ◌⊎◌, List, [], ◌∷◌, ◌++◌, Some, None, Option, sym, refl, ap, ◌∙◌, subst, inl, inr, arith, ltb-false, ltb-true, le-ltb, lt-ltb, eq-eqb, ne_eqb, eqb-true}
-use borrow.Author.Tests.{eqb-false}
+use Rattle.std.proofs.Common.{◌≡◌, ℕ, zero, suc, ◌+◌, ◌<◌, Bool, true, false, cond, not, ◌&&◌, eqb, ltb, ◌⊎◌, List, [], ◌∷◌, ◌++◌, Some, Option, sym, refl, ap, subst, inl, inr, arith, ltb-true, eq-eqb}
 use Rattle.model.specs.Flood.{row}
 use Rattle.model.specs.Words.{is_in}
-use Rattle.model.proofs.Tests.{of_cond, cond-true, cond-false}
+use Rattle.model.proofs.Tests.{of_cond, cond-true}
 use Rattle.model.proofs.Kept.{Each, each_more}
-use Rattle.linkmodel.specs.Links.{Wire, Silent, Heard, Open, Hello, Links, wires, holds_for, heard_on, who_on, aged, closed_to, hello_for, sends_hello, greeted, fresh, passes, hears_hello, rewired, fell}
-use Rattle.linkmodel.specs.Hellos.{Hellos, Move, Ticks, Arrives, Wired, Falls, on_box, hellos_out, arrives_nth, move, first_drawn, hellos, Drawn, accepts, OpenMeans}
-use Rattle.linkmodel.proofs.Wires.{shut_wire, aged_open, closed_open, OpenedBy, OpenBefore, greeted_open}
+use Rattle.linkmodel.specs.Links.{Wire, Silent, Heard, Open, Hello, Links, wires, holds_for, heard_on, who_on, aged, closed_to, hello_for, sends_hello, greeted, passes, rewired, fell}
+use Rattle.linkmodel.specs.Hellos.{Hellos, Move, Ticks, Arrives, Wired, Falls, on_box, hellos_out, arrives_nth, move, hellos, Drawn, accepts, OpenMeans}
+use Rattle.linkmodel.proofs.Wires.{shut_wire, aged_open, OpenedBy, OpenBefore, greeted_open}
 use Rattle.linkmodel.proofs.Moments.{Once, once_now, once_more, Had, of_move, drawn_once}
 
 -- P is so of whoever was heard on a wire, and of the number heard

@@ -1,12 +1,12 @@
 -- Moments of a history of hellos, and that no number is drawn by two boxes.
-use Rattle.std.proofs.Common.{◌≡◌, ℕ, zero, suc, ◌+◌, ◌<◌, ◌≤◌, Bool, true, false, cond, not, ◌&&◌, ◌||◌, T, eqb, ltb, ◌⊎◌, List, [], ◌∷◌, ◌++◌, sym, refl, ap, ◌∙◌, subst, inl, inr, arith, ltb-false, ltb-true, le-ltb, lt-ltb, eq-eqb, ne_eqb, eqb-true}
+use Rattle.std.proofs.Common.{◌≡◌, ℕ, zero, suc, ◌<◌, Bool, true, false, not, ◌&&◌, ◌||◌, eqb, ltb, ◌⊎◌, List, [], ◌∷◌, ◌++◌, sym, refl, ap, ◌∙◌, subst, inl, inr, arith, ltb-true, eq-eqb, eqb-true}
 use borrow.Author.Tests.{eqb-false}
 use Rattle.model.specs.Flood.{row}
 use Rattle.model.specs.Words.{is_in}
-use Rattle.model.proofs.Tests.{of_cond, cond-true, cond-false, or_left, or_right}
-use Rattle.linkmodel.proofs.Bools.{T-is, is_T, and_left, and_right, and_both, not-was, decide}
-use Rattle.model.proofs.Kept.{Each, each_more}
-use Rattle.linkmodel.specs.Links.{Wire, Silent, Heard, Open, Hello, Links, wires, holds_for, greeted, fresh, passes, hears_hello, rewired, fell}
+use Rattle.model.proofs.Tests.{of_cond, or_left, or_right}
+use Rattle.linkmodel.proofs.Bools.{and_left, and_right, not-was}
+use Rattle.model.proofs.Kept.{Each}
+use Rattle.linkmodel.specs.Links.{Hello, Links, wires, greeted, passes, hears_hello, rewired, fell}
 use Rattle.linkmodel.specs.Hellos.{Hellos, Move, Ticks, Arrives, Wired, Falls, on_box, hellos_out, arrives_nth, move, first_drawn, hellos, Drawn, accepts}
 
 -- something was so at some moment

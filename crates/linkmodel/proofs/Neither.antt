@@ -1,11 +1,11 @@
 -- Where nothing comes at one end of a wire, neither end holds it open for long.
-use Rattle.std.proofs.Common.{◌≡◌, ℕ, zero, suc, ◌+◌, ◌-◌, ◌%◌, ◌<◌, ◌≤◌, Bool, true, false, cond, not, ◌&&◌, ◌||◌, T, eqb, ltb, ◌⊎◌, List, [], ◌∷◌, ◌++◌, sym, refl, ap, ◌∙◌, subst, inl, inr, arith, lt-ltb, eqb-true}
+use Rattle.std.proofs.Common.{◌≡◌, ℕ, zero, suc, ◌+◌, ◌<◌, ◌≤◌, Bool, true, false, eqb, ltb, refl, ap, ◌∙◌, arith, lt-ltb, eqb-true}
 use borrow.Author.Tests.{eqb-false}
-use Rattle.model.proofs.Tests.{of_cond, cond-true, cond-false}
-use Rattle.linkmodel.specs.Links.{Wire, Silent, Heard, Open, Hello, Links, wires, holds_for, hello_every, heard_on, aged, closed_to, passes, hello_for}
-use Rattle.linkmodel.specs.Hellos.{Input, meets, links_after, is_open_wire}
-use Rattle.linkmodel.specs.Agreeing.{Run, links_at, ticked_at, is_of, when_on, SentLately, Fair, End, NeitherOpen}
-use Rattle.linkmodel.proofs.Runs.{Steady, steady_meets, steady_passes, of_list, of_fair, steady_at, steady_ticked}
+use Rattle.model.proofs.Tests.{of_cond, cond-true}
+use Rattle.linkmodel.specs.Links.{Wire, Silent, Heard, Open, Hello, Links, holds_for, heard_on, aged, closed_to}
+use Rattle.linkmodel.specs.Hellos.{Input, meets, is_open_wire}
+use Rattle.linkmodel.specs.Agreeing.{Run, links_at, ticked_at, when_on, SentLately, Fair, End, NeitherOpen}
+use Rattle.linkmodel.proofs.Runs.{Steady, steady_meets, of_list, of_fair, steady_at, steady_ticked}
 
 -- the tick at which a wire was opened, 0 if it isn't open
 abbrev pub open_when : Wire → ℕ

@@ -1,14 +1,13 @@
 -- A wire is open just when its last hello fits.
-use Rattle.std.proofs.Common.{◌≡◌, ℕ, zero, suc, ◌+◌, ◌<◌, ◌≤◌, Bool, true, false, cond, not, ◌&&◌, ◌||◌, T, eqb, ltb, ◌⊎◌, List, [], ◌∷◌, ◌++◌, sym, refl, ap, ◌∙◌, subst, inl, inr, arith, ltb-false, ltb-true, le-ltb, lt-ltb, eq-eqb, ne_eqb, eqb-true}
+use Rattle.std.proofs.Common.{◌≡◌, ℕ, suc, ◌+◌, ◌<◌, ◌≤◌, Bool, true, false, cond, not, ◌&&◌, ◌||◌, T, eqb, ltb, ◌⊎◌, List, [], ◌∷◌, ◌++◌, sym, refl, ap, ◌∙◌, subst, inl, inr, arith, ltb-true, le-ltb, lt-ltb, eq-eqb, ne_eqb, eqb-true}
 use borrow.Author.Tests.{eqb-false}
 use Rattle.std.proofs.lemmas.Bool.Decides.{nat_tests}
-use Rattle.model.specs.Flood.{row}
 use Rattle.model.proofs.Tests.{of_cond, cond-true, cond-false}
-use Rattle.linkmodel.proofs.Bools.{T-is, is_T, and_left, and_right, and_both, decide}
-use Rattle.linkmodel.specs.Links.{Wire, Silent, Heard, Open, Hello, Links, wires, holds_for, aged, closed_to, taken, hello_refusal, greeted, fresh, passes, hears_hello, rewired, fell}
-use Rattle.linkmodel.specs.Hellos.{Input, Passes, Hears, Rewires, Fell, meets, links_after, accepts, is_open_wire, ticks_in, undisturbed, Fits, OpenJustWhen}
+use Rattle.linkmodel.proofs.Bools.{T-is, is_T, decide}
+use Rattle.linkmodel.specs.Links.{Wire, Silent, Heard, Open, Hello, Links, holds_for, aged, closed_to, greeted, fresh, hears_hello}
+use Rattle.linkmodel.specs.Hellos.{Input, Passes, Hears, Rewires, Fell, links_after, accepts, is_open_wire, ticks_in, undisturbed, Fits, OpenJustWhen}
 use Rattle.linkmodel.specs.Relinked.{Sound}
-use Rattle.linkmodel.proofs.Wires.{shut_wire, heard_wire, aged_open, closed_open, Taken, accepted, row_at, row_off, OpenedBy, OpenBefore, greeted_open}
+use Rattle.linkmodel.proofs.Wires.{shut_wire, aged_open, row_at, row_off, OpenedBy, OpenBefore, greeted_open}
 use Rattle.linkmodel.proofs.Sounds.{sound_fresh, sound_after}
 
 -- the hello that opened a wire, with its age

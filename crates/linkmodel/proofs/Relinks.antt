@@ -1,12 +1,11 @@
 -- The events of changed links lead a box where they should.
-use Rattle.std.proofs.Common.{◌≡◌, ℕ, zero, suc, ◌+◌, ◌<◌, ◌≤◌, Bool, true, false, cond, not, ◌&&◌, ◌||◌, T, eqb, ltb, ◌⊎◌, List, [], ◌∷◌, ◌++◌, sym, refl, ap, ◌∙◌, subst, inl, inr, append_assoc, arith, ltb-false, ltb-true, le-ltb, lt-ltb, eq-eqb, ne_eqb, eqb-true}
+use Rattle.std.proofs.Common.{◌≡◌, ℕ, zero, suc, ◌+◌, ◌<◌, ◌≤◌, Bool, true, false, cond, not, ◌&&◌, eqb, ltb, List, [], ◌∷◌, ◌++◌, sym, refl, ap, ◌∙◌, subst, append_assoc, arith, ltb-false, le-ltb, lt-ltb, eq-eqb, ne_eqb, eqb-true}
 use borrow.Author.Tests.{eqb-false}
 use Rattle.std.proofs.lemmas.Bool.Decides.{nat_tests}
-use Rattle.model.specs.Words.{World, Entry, Ev, Road, at2, step, world}
+use Rattle.model.specs.Words.{World, Ev, Road, at2, step, world}
 use Rattle.model.specs.Box.{Box, Stands}
 use Rattle.model.proofs.Tests.{of_cond, cond-true, cond-false}
 use Rattle.model.proofs.Sizes.{world_n}
-use Rattle.linkmodel.proofs.Bools.{decide, and_left, and_right, and_both}
 use Rattle.linkmodel.specs.Links.{Wire, Silent, Heard, Open, Links, wires, opens_to, lowest_to, road_cost, is_anew, road_events, relinks}
 use Rattle.linkmodel.specs.Hellos.{Input, meets}
 use Rattle.linkmodel.specs.Relinked.{Sound, relinked, RelinkSo}

@@ -1,11 +1,10 @@
 -- One box step by step: what stays the same, what its joined wire can become, and when hellos come.
-use Rattle.std.proofs.Common.{◌≡◌, ℕ, zero, suc, ◌+◌, ◌-◌, ◌%◌, ◌<◌, ◌≤◌, Bool, true, false, cond, not, ◌&&◌, ◌||◌, T, eqb, ltb, ◌⊎◌, List, [], ◌∷◌, ◌++◌, sym, refl, ap, ◌∙◌, subst, inl, inr, arith, ltb-false, ltb-true, le-ltb, lt-ltb, eq-eqb, ne_eqb, eqb-true}
-use borrow.Author.Tests.{eqb-false}
-use Rattle.model.proofs.Tests.{of_cond, cond-true, cond-false}
+use Rattle.std.proofs.Common.{◌≡◌, ℕ, zero, suc, ◌+◌, ◌-◌, ◌%◌, ◌<◌, ◌≤◌, true, cond, eqb, ltb, ◌⊎◌, List, [], ◌∷◌, sym, refl, ap, subst, inl, inr, arith, lt-ltb, eq-eqb, eqb-true}
+use Rattle.model.proofs.Tests.{of_cond}
 use Rattle.linkmodel.proofs.Bools.{and_both, and_right}
-use Rattle.linkmodel.specs.Links.{Wire, Silent, Heard, Open, Hello, Links, wires, holds_for, hello_every, aged, closed_to, greeted, passes, hello_for, sends_hello, hears_hello, rewired}
+use Rattle.linkmodel.specs.Links.{Wire, Silent, Heard, Open, Hello, Links, hello_every, closed_to, greeted, passes, hello_for, sends_hello}
 use Rattle.linkmodel.specs.Hellos.{Input, Passes, Hears, Rewires, Fell, meets, links_after, accepts}
-use Rattle.linkmodel.specs.Agreeing.{Run, links_at, ticked_at, is_of, when_on, SentLately, Fair, End, Came, Enough}
+use Rattle.linkmodel.specs.Agreeing.{Run, links_at, ticked_at, is_of, Fair, End, Came, Enough}
 
 -- what stays the same: who the box is, of how many, its number, and that its wire w is there; and its tick is now
 pub record Steady (one : Run) (w now : ℕ) (s : Links) : Type 0 where

@@ -1,12 +1,11 @@
 -- Links are sound: at first, and after each input.
-use Rattle.std.proofs.Common.{◌≡◌, ℕ, zero, suc, ◌+◌, ◌<◌, ◌≤◌, Bool, true, false, cond, not, ◌&&◌, ◌||◌, eqb, ltb, ◌⊎◌, List, [], ◌∷◌, ◌++◌, sym, refl, ap, ◌∙◌, subst, inl, inr, arith, eq-eqb, ne_eqb, eqb-true}
-use borrow.Author.Tests.{eqb-false}
+use Rattle.std.proofs.Common.{◌≡◌, ℕ, suc, ◌<◌, cond, eqb, ◌⊎◌, List, [], ◌∷◌, sym, refl, ap, ◌∙◌, subst, inl, inr, arith, eq-eqb, eqb-true}
 use Rattle.model.specs.Flood.{row}
-use Rattle.model.proofs.Tests.{of_cond, cond-true, cond-false}
-use Rattle.linkmodel.specs.Links.{Wire, Silent, Heard, Open, Hello, Links, wires, holds_for, aged, closed_to, taken, hello_refusal, greeted, fresh, passes, hears_hello, rewired, fell}
+use Rattle.model.proofs.Tests.{of_cond, cond-true}
+use Rattle.linkmodel.specs.Links.{Wire, Silent, Heard, Open, Hello, Links, aged, closed_to, greeted, fresh, passes, hears_hello, rewired, fell}
 use Rattle.linkmodel.specs.Hellos.{Input, Passes, Hears, Rewires, Fell, meets, links_after, accepts}
 use Rattle.linkmodel.specs.Relinked.{Sound}
-use Rattle.linkmodel.proofs.Wires.{shut_wire, heard_wire, aged_open, closed_open, Taken, accepted, row_at, row_off, OpenedBy, OpenBefore, greeted_open}
+use Rattle.linkmodel.proofs.Wires.{shut_wire, aged_open, Taken, accepted, row_at, row_off, OpenedBy, OpenBefore, greeted_open}
 
 pub sound_fresh : (n me d : ℕ) → Sound (fresh n me d)
 sound_fresh n me d = record { silent = λ w e. refl; known = λ w f c t e. shut_wire f c t e }

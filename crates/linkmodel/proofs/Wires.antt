@@ -1,11 +1,10 @@
 -- What is known of one wire after each input: an open wire comes from where, and what a taken hello is.
-use Rattle.std.proofs.Common.{◌≡◌, ℕ, suc, ◌+◌, ◌<◌, ◌≤◌, Bool, true, false, cond, not, ◌&&◌, ◌||◌, eqb, ltb, ◌⊎◌, sym, refl, ap, ◌∙◌, subst, inl, inr, arith, ltb-false, ltb-true, le-ltb, lt-ltb, eq-eqb, ne_eqb, eqb-true}
-use borrow.Author.Tests.{eqb-false, both_ways}
+use Rattle.std.proofs.Common.{◌≡◌, ℕ, ◌+◌, ◌<◌, ◌≤◌, Bool, true, false, cond, not, ◌&&◌, ◌||◌, eqb, ltb, ◌⊎◌, refl, ◌∙◌, inl, inr, arith, ltb-false, eq-eqb, ne_eqb, eqb-true}
+use borrow.Author.Tests.{eqb-false}
 use Rattle.std.proofs.lemmas.Bool.Decides.{nat_tests}
 use Rattle.model.specs.Flood.{row}
 use Rattle.model.proofs.Tests.{of_cond, cond-true, cond-false}
-use Rattle.linkmodel.proofs.Bools.{and_left, and_right, and_both, true_not_false}
-use Rattle.linkmodel.specs.Links.{Wire, Silent, Heard, Open, Hello, Links, wires, holds_for, aged, closed_to, taken, hello_refusal, greeted}
+use Rattle.linkmodel.specs.Links.{Wire, Silent, Heard, Open, Hello, Links, wires, holds_for, aged, closed_to, taken, greeted}
 use Rattle.linkmodel.specs.Hellos.{accepts}
 
 -- a wire that is silent or only heard is not open

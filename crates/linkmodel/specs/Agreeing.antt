@@ -1,5 +1,5 @@
 -- Both ends of a wire agree: two boxes, step by step, a wire of the one joined with a wire of the other. Each promise is a type; a proof of the type is the theorem. Assumes nothing.
-use Rattle.std.specs.Prelude.{◌≡◌, ℕ, zero, suc, ◌+◌, ◌<◌, ◌≤◌, Bool, true, false, ◌⊎◌, List, [], ◌∷◌, ◌≢◌}
+use Rattle.std.specs.Prelude.{◌≡◌, ℕ, zero, suc, ◌+◌, ◌<◌, ◌≤◌, true, false, ◌⊎◌, List, [], ◌∷◌, ◌≢◌}
 use Rattle.linkmodel.specs.Links.{Wire, Silent, Heard, Open, Hello, Links, wires, hello_every, passes, hello_for, sends_hello}
 use Rattle.linkmodel.specs.Hellos.{Input, Passes, Hears, Rewires, Fell, links_after, is_open_wire}
 

@@ -1,12 +1,12 @@
 -- Which events of the model each thing that a whole box does is. Each promise is a type; a proof of the type is the theorem. Assumes nothing.
-use Rattle.std.specs.Prelude.{◌≡◌, ℕ, zero, suc, ◌+◌, ◌%◌, ◌<◌, Bool, true, false, cond, not, ◌&&◌, T, List, [], ◌∷◌, ◌++◌, length, ◌==◌, nat_lt}
-use Rattle.model.specs.Words.{Word, Ev, Says, Comes, Falls, is_in, world}
+use Rattle.std.specs.Prelude.{◌≡◌, ℕ, ◌<◌, Bool, true, false, cond, not, ◌&&◌, T, List, [], ◌∷◌, ◌++◌, length, ◌==◌, nat_lt}
+use Rattle.model.specs.Words.{Word, Ev, Says, Falls, is_in, world}
 use Rattle.model.specs.Code.{nth_is}
 use Rattle.model.specs.Box.{Box, Stands, must_say, sendings, tellings}
 use Rattle.model.specs.Boxes.{words_to, words_out}
-use Rattle.linkmodel.specs.Links.{Links, Hello, road_cost, passes, hears_hello, rewired, fell, relinks}
+use Rattle.linkmodel.specs.Links.{Hello, road_cost, passes, hears_hello, rewired, fell, relinks}
 use Rattle.linkmodel.specs.Relinked.{Sound, relinked}
-use Rattle.linkmodel.specs.Station.{Station, Item, Bundle, Seens, tells_every, told_word, can_say, is_stuck, takes_item, marks_item, takes_all, takings, news_for, heard_words, heard_seens, heard_hello, has_costs, falls, ticks, says_if_owed}
+use Rattle.linkmodel.specs.Station.{Station, Item, Bundle, Seens, told_word, can_say, is_stuck, takes_item, marks_item, takings, heard_words, heard_seens, heard_hello, has_costs, falls, ticks}
 use Rattle.linkmodel.specs.Wired.{all_fresh}
 
 -- wires and words of one box: the roads are those that the wires hold open

@@ -1,5 +1,5 @@
 -- What an open wire means: for one box over any inputs, and for a net of boxes over any history of hellos, which may be lost, repeated, late, out of order or on another wire. Each promise is a type; a proof of the type is the theorem. Assumes nothing.
-use Rattle.std.specs.Prelude.{◌≡◌, ℕ, zero, suc, ◌+◌, ◌<◌, ◌≤◌, Bool, true, false, cond, not, ◌&&◌, ◌||◌, T, List, [], ◌∷◌, ◌++◌, Some, None, Option, ◌==◌, nat_lt}
+use Rattle.std.specs.Prelude.{◌≡◌, ℕ, zero, suc, ◌<◌, ◌≤◌, Bool, true, false, cond, not, ◌&&◌, ◌||◌, T, List, [], ◌∷◌, ◌++◌, Some, ◌==◌, nat_lt}
 use Rattle.model.specs.Flood.{row}
 use Rattle.model.specs.Words.{is_in}
 use Rattle.linkmodel.specs.Links.{Wire, Silent, Heard, Open, Hello, Links, wires, holds_for, heard_on, who_on, fresh, passes, hello_for, sends_hello, hello_refusal, hears_hello, rewired, fell}

@@ -1,8 +1,8 @@
 -- What the events of changed links do to a box: its roads cost then what the links say. A proof of RelinkSo is the theorem. Assumes nothing.
-use Rattle.std.specs.Prelude.{◌≡◌, ℕ, ◌<◌, Bool, true, false, ◌&&◌, List, [], ◌∷◌, ◌++◌, ◌==◌, ◌≢◌, nat_lt}
+use Rattle.std.specs.Prelude.{◌≡◌, ℕ, ◌<◌, true, ◌&&◌, List, [], ◌∷◌, ◌++◌, ◌==◌, ◌≢◌, nat_lt}
 use Rattle.model.specs.Words.{Ev, Road, Says, Sends, Comes, Falls}
 use Rattle.model.specs.Box.{Box, Stands, road_is}
-use Rattle.linkmodel.specs.Links.{Wire, Silent, Open, Links, road_cost, relinks}
+use Rattle.linkmodel.specs.Links.{Silent, Open, Links, road_cost, relinks}
 
 -- a wire that isn't there is silent; a wire is open only to another box, under the last number that was heard of it
 pub record Sound (s : Links) : Type 0 where

@@ -1,9 +1,9 @@
 -- A whole box by values: its wires and its words, and what it does at each thing that comes. Assumes nothing.
-use Rattle.std.specs.Prelude.{◌≡◌, ℕ, zero, suc, ◌+◌, ◌%◌, ◌^◌, ◌<◌, Bool, true, false, cond, not, ◌&&◌, ◌||◌, List, [], ◌∷◌, ◌++◌, Some, None, Option, ◌==◌, nat_lt}
-use Rattle.model.specs.Words.{Entry, Word, Ev, Says, Sends, Comes, Falls, newer}
+use Rattle.std.specs.Prelude.{ℕ, zero, suc, ◌+◌, ◌%◌, ◌^◌, Bool, cond, not, ◌&&◌, List, [], ◌∷◌, ◌++◌, Some, None, Option, ◌==◌, nat_lt}
+use Rattle.model.specs.Words.{Entry, Word, Ev, Comes, newer}
 use Rattle.model.specs.Code.{same_word}
 use Rattle.model.specs.Box.{Box, begun, forgets, is_new_to, takes, sees, says_now, must_say, tells}
-use Rattle.linkmodel.specs.Links.{Wire, Hello, Links, wires, opens_to, who_on, road_cost, fresh, passes, hello_for, sends_hello, hears_hello, rewired, fell, relinks}
+use Rattle.linkmodel.specs.Links.{Hello, Links, wires, opens_to, who_on, road_cost, fresh, passes, hello_for, sends_hello, hears_hello, rewired, fell}
 use Rattle.linkmodel.specs.Relinked.{relinked}
 
 -- its wires, and its roads and words; the roads are those that its wires hold open

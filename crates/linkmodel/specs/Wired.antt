@@ -1,9 +1,7 @@
 -- A net of whole boxes on wires that lose, repeat, delay and reorder anything, hellos, words and seens of earlier lives too. Each promise is a type; a proof of the type is the theorem. Assumes nothing.
-use Rattle.std.specs.Prelude.{◌≡◌, ℕ, zero, suc, ◌+◌, ◌<◌, ◌≤◌, Bool, true, false, cond, not, ◌&&◌, ◌||◌, T, List, [], ◌∷◌, ◌++◌, length, Some, None, Option, nat_lt}
+use Rattle.std.specs.Prelude.{◌≡◌, ℕ, zero, suc, ◌<◌, Bool, true, false, cond, not, ◌&&◌, List, [], ◌∷◌, ◌++◌, Some, None, Option, nat_lt}
 use Rattle.model.specs.Flood.{row}
-use Rattle.model.specs.Words.{Entry, newer, is_in}
-use Rattle.model.specs.Box.{Box}
-use Rattle.linkmodel.specs.Links.{Links, Hello}
+use Rattle.model.specs.Words.{newer, is_in}
 use Rattle.linkmodel.specs.Hellos.{first_drawn, Drawn}
 use Rattle.linkmodel.specs.Station.{Station, Bundle, Seens, Frame, Greets, Tells, Shows, Out, station, teller, heard_words, answers, heard_seens, heard_hello, has_costs, falls, ticks, tick_out}
 

@@ -1,6 +1,8 @@
 // What boxes tell each other, as values: words and their numbers, hellos, and the settings of a box.
 //
 // It knows the model's word and nothing of bytes or of a box's state. It promises when a word is newer than another.
+#![tactic(auto)]
+
 mod values;
 
 ghost use Rattle.messages.specs.Values.{newer_id, same_id};

@@ -1,5 +1,5 @@
 -- Fair runs by rule settle: all but so many stretches end at rest, and an endless run rests at last.
-use Rattle.std.proofs.Common.{◌≡◌, ℕ, ◌+◌, ◌-◌, ◌≤◌, cond, T, List, [], ◌∷◌, ◌++◌, ap, ◌∙◌, arith}
+use Rattle.std.proofs.Common.{◌≡◌, ℕ, ◌+◌, ◌≤◌, cond, T, List, [], ◌∷◌, ◌++◌, ap, ◌∙◌, arith}
 use Rattle.model.specs.Words.{Ev, world}
 use Rattle.model.specs.Promise.{Even, Rest, by_rule, new_words}
 use Rattle.model.specs.Spread.{joined, between}

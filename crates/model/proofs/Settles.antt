@@ -1,5 +1,5 @@
 -- A run by rule, cut into fair stretches, comes to rest: a stretch in which nothing is new begins and ends at rest, and only so many acts are new.
-use Rattle.std.proofs.Common.{◌≡◌, ℕ, zero, suc, ◌+◌, ◌-◌, ◌<◌, ◌≤◌, Bool, true, false, cond, T, ◌⊎◌, List, [], ◌∷◌, ◌++◌, sym, refl, ap, ◌∙◌, subst, inl, inr, arith}
+use Rattle.std.proofs.Common.{◌≡◌, ℕ, zero, suc, ◌+◌, ◌<◌, ◌≤◌, Bool, true, false, cond, T, ◌⊎◌, List, [], ◌∷◌, ◌++◌, sym, refl, ap, ◌∙◌, subst, inl, inr, arith}
 use Rattle.model.specs.Words.{is_in}
 use Rattle.model.specs.Flood.{Item, fresher, Copy, Setup, Net, Act, Speaks, Gets, act, net}
 use Rattle.model.specs.Spread.{owes, Settled, settled, by_rule_for, is_news, news_nth, is_new, news, most_news, copy_is, SpeaksIn, BroughtIn, FairFor, StretchFor, StretchesFor, joined, restless, between, SettlesFor, SettlesAtLastFor}

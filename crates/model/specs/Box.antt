@@ -1,10 +1,10 @@
 -- One box by itself: its state, and what each call does to it. Assumes nothing.
-use Rattle.std.specs.Prelude.{◌≡◌, ℕ, zero, suc, ◌+◌, ◌<◌, Bool, true, false, cond, not, ◌&&◌, ◌||◌, List, [], ◌∷◌, ◌++◌, ◌==◌, nat_lt}
+use Rattle.std.specs.Prelude.{◌≡◌, ℕ, zero, suc, ◌<◌, Bool, false, cond, not, ◌&&◌, ◌||◌, List, [], ◌∷◌, ◌++◌, ◌==◌, nat_lt}
 use Rattle.model.specs.Map.{Map, Hop, hop}
-use Rattle.model.specs.Words.{Entry, Word, World, Ev, Road, Says, Sends, Comes, Falls, newer, unsaid, world}
+use Rattle.model.specs.Words.{Entry, Word, Ev, Road, Says, Sends, newer, unsaid, world}
 use Rattle.model.specs.Forward.{cost_by}
 use Rattle.model.specs.Promise.{all_below}
-use Rattle.model.specs.Code.{pick, same_word}
+use Rattle.model.specs.Code.{pick}
 use Rattle.model.specs.Flood.{row}
 
 -- n boxes, of which this is number me. cost e: what its road to e costs from here, 0 if it holds none open. word i: the newest word that it was told of i. shown e i: neighbour e has shown that it has the same word of i

@@ -1,12 +1,12 @@
 -- A net of boxes, each doing by itself what its calls do, driven by events. Each promise is a type; a proof of the type is the theorem. Assumes nothing.
-use Rattle.std.specs.Prelude.{◌≡◌, ℕ, zero, suc, ◌+◌, ◌<◌, Bool, true, false, cond, not, ◌&&◌, List, [], ◌∷◌, ◌++◌, map, ◌==◌, nat_lt}
-use Rattle.model.specs.Map.{Far, Never, At, far, Hop, Nowhere, To}
-use Rattle.model.specs.Words.{Entry, Word, World, Ev, Road, Says, Sends, Comes, Falls, is_in, world}
+use Rattle.std.specs.Prelude.{◌≡◌, ℕ, zero, suc, ◌+◌, ◌<◌, false, cond, ◌&&◌, List, [], ◌∷◌, ◌++◌, ◌==◌, nat_lt}
+use Rattle.model.specs.Map.{Never, At, far, Hop, Nowhere, To}
+use Rattle.model.specs.Words.{Word, Ev, Road, Says, Sends, Comes, Falls, is_in, world}
 use Rattle.model.specs.Forward.{real_map, End, Arrived, Refused, Worn}
 use Rattle.model.specs.Promise.{Rest}
 use Rattle.model.specs.Code.{nth_is}
 use Rattle.model.specs.Flood.{row}
-use Rattle.model.specs.Box.{Box, Stands, begun, is_open, road_is, says_now, takes, sees, hears, forgets, fallen, closings, word_for, map_in, hop_in, must_say, tells, ticked, tick_says, tellings}
+use Rattle.model.specs.Box.{Box, Stands, begun, is_open, road_is, says_now, takes, sees, hears, forgets, fallen, closings, word_for, hop_in, must_say, tells, ticked, tick_says, tellings}
 use Rattle.model.specs.CodeOf.{CodeOf, Shows}
 
 -- the state is that of box a of n after these events

@@ -1,8 +1,7 @@
 -- What the code must be, to be this system: its states, what it does at each event, and what it answers and sends; the code has to give a term of this. Assumes nothing.
-use Rattle.std.specs.Prelude.{◌≡◌, ℕ, zero, suc, ◌+◌, ◌*◌, ◌/◌, ◌%◌, ◌<◌, ◌≤◌, Bool, true, false, cond, not, ◌&&◌, ◌||◌, T, List, [], ◌∷◌, ◌++◌, length, ◌==◌, ◌≢◌, nat_lt}
-use mathlib.Core.List.{Memᴰ}
+use Rattle.std.specs.Prelude.{◌≡◌, ℕ, zero, suc, ◌+◌, ◌<◌, Bool, true, false, cond, not, ◌&&◌, ◌||◌, T, List, [], ◌∷◌, ◌==◌, ◌≢◌, nat_lt}
 use Rattle.model.specs.Map.{Hop, hop}
-use Rattle.model.specs.Words.{Entry, Word, World, Ev, Road, Says, Sends, Comes, Falls, is_in, world}
+use Rattle.model.specs.Words.{Entry, Word, Ev, Road, Says, Sends, Comes, Falls, is_in, world}
 use Rattle.model.specs.Forward.{map_of}
 use Rattle.model.specs.Promise.{own_true}
 

@@ -1,7 +1,7 @@
 -- What the code of a box must be, over a given type of states, so that a contract can name it; and what must be shown, not only what may be. Assumes nothing.
 use Rattle.std.specs.Prelude.{◌≡◌, ℕ, ◌<◌, Bool, true, false, not, ◌&&◌, ◌||◌, T, List, [], ◌∷◌, ◌==◌, ◌≢◌, nat_lt}
 use Rattle.model.specs.Map.{Hop, hop}
-use Rattle.model.specs.Words.{Entry, Word, World, Ev, Road, Says, Sends, Comes, Falls, is_in, world}
+use Rattle.model.specs.Words.{Word, Ev, Road, Says, Sends, Comes, Falls, is_in, world}
 use Rattle.model.specs.Forward.{map_of}
 use Rattle.model.specs.Promise.{own_true}
 use Rattle.model.specs.Code.{of_box, nth_is, pick, same_word}

@@ -1,5 +1,5 @@
 -- Flooding, whatever is said: boxes that tell each other the newest item of each subject, links that each end opens and closes by itself, copies that come late, and boxes that fall. Assumes nothing.
-use Rattle.std.specs.Prelude.{◌≡◌, ℕ, zero, suc, ◌+◌, ◌*◌, ◌<◌, ◌≤◌, Bool, true, false, cond, not, ◌&&◌, ◌||◌, T, List, [], ◌∷◌, ◌++◌, ◌==◌, nat_lt}
+use Rattle.std.specs.Prelude.{◌≡◌, ℕ, zero, suc, Bool, true, false, cond, not, ◌&&◌, ◌||◌, List, [], ◌∷◌, ◌++◌, ◌==◌, nat_lt}
 use Rattle.model.specs.Words.{is_in, at2}
 
 -- what was said of a subject: a number, a tag that is never drawn twice, and what it says. Number 0: nothing was said

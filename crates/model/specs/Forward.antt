@@ -1,6 +1,5 @@
 -- The map that a router has of the net, and the way of a packet. Assumes nothing.
-use Rattle.std.specs.Prelude.{◌≡◌, ℕ, zero, suc, ◌+◌, ◌*◌, ◌/◌, ◌%◌, ◌<◌, ◌≤◌, Bool, true, false, cond, not, ◌&&◌, ◌||◌, T, List, [], ◌∷◌, ◌++◌, length, ◌==◌, nat_lt}
-use mathlib.Core.List.{Memᴰ}
+use Rattle.std.specs.Prelude.{ℕ, zero, suc, ◌+◌, cond, ◌==◌, nat_lt}
 use Rattle.model.specs.Map.{Map, Hop, Nowhere, To, hop}
 use Rattle.model.specs.Words.{Entry, World}
 

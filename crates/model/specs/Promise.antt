@@ -1,9 +1,8 @@
 -- What is promised of the whole, and of its parts. Each is a type; a proof of the type is the theorem. Assumes nothing.
-use Rattle.std.specs.Prelude.{◌≡◌, ℕ, zero, suc, ◌+◌, ◌*◌, ◌/◌, ◌%◌, ◌<◌, ◌≤◌, Bool, true, false, cond, not, ◌&&◌, ◌||◌, T, List, [], ◌∷◌, ◌++◌, length, ◌==◌, ◌≢◌, nat_lt}
-use mathlib.Core.List.{Memᴰ}
-use Rattle.model.specs.Map.{Map, Far, Never, At, far, Hop, To, hop}
-use Rattle.model.specs.Words.{Entry, Word, World, Ev, Road, Says, Sends, Comes, Falls, newer, is_in, world, step}
-use Rattle.model.specs.Forward.{map_of, real_map, End, Arrived, Refused, Worn, travels}
+use Rattle.std.specs.Prelude.{◌≡◌, ℕ, zero, suc, ◌+◌, ◌*◌, ◌<◌, ◌≤◌, Bool, true, false, cond, not, ◌&&◌, ◌||◌, T, List, [], ◌∷◌, ◌++◌, length, ◌==◌, ◌≢◌, nat_lt}
+use Rattle.model.specs.Map.{Map, Never, At, far}
+use Rattle.model.specs.Words.{Word, World, Ev, Road, Says, Sends, Comes, Falls, newer, is_in, world, step}
+use Rattle.model.specs.Forward.{map_of, real_map, Arrived, Refused, travels}
 
 unfoldable pub is_way : Map → ℕ → List ℕ → Bool
 is_way z x [] = true

@@ -1,5 +1,5 @@
 -- Words about roads as an instance of flooding: what is said is what each road costs, each router speaks for its own number, and a fall keeps nothing. Assumes nothing.
-use Rattle.std.specs.Prelude.{◌≡◌, ℕ, zero, suc, Bool, true, false, cond, not, ◌&&◌, ltb, List, [], ◌∷◌, map, ◌==◌, nat_eq, nat_lt}
+use Rattle.std.specs.Prelude.{◌≡◌, ℕ, cond, not, ◌&&◌, ltb, List, [], ◌∷◌, map, ◌==◌, nat_eq, nat_lt}
 use Rattle.model.specs.Words.{Entry, Word, World, Ev, Road, Says, Sends, Comes, Falls, world}
 use Rattle.model.specs.Promise.{all_below}
 use Rattle.model.specs.Flood.{Item, Copy, Setup, Net, Act, Turns, Speaks, Tells, Gets, Back, row, net}

@@ -1,6 +1,6 @@
 -- What is promised of words beyond their parts: tags, rest by rule, progress, and runs that are fair. Each is a type; a proof of the type is the theorem. Assumes nothing.
-use Rattle.std.specs.Prelude.{◌≡◌, ℕ, zero, suc, ◌+◌, ◌*◌, ◌<◌, ◌≤◌, Bool, true, false, cond, not, ◌&&◌, ◌||◌, T, ◌⊎◌, List, [], ◌∷◌, ◌++◌, length, nat_lt}
-use Rattle.model.specs.Words.{Entry, Word, World, Ev, Says, Comes, newer, is_in, world}
+use Rattle.std.specs.Prelude.{◌≡◌, ℕ, ◌+◌, ◌*◌, ◌<◌, ◌≤◌, Bool, true, false, cond, not, ◌&&◌, ◌||◌, T, ◌⊎◌, List, [], ◌∷◌, ◌++◌, length, nat_lt}
+use Rattle.model.specs.Words.{Word, World, Ev, Says, Comes, newer, is_in, world}
 use Rattle.model.specs.Promise.{Even, Rest, all_below, own_true, by_rule, new_words}
 use Rattle.model.specs.Code.{nth_is, same_word}
 use Rattle.model.specs.Spread.{joined, between}

@@ -2,7 +2,7 @@
 use Rattle.std.specs.Prelude.{◌≡◌, ℕ, zero, suc, ◌+◌, ◌*◌, ◌<◌, ◌≤◌, Bool, true, false, cond, not, ◌&&◌, ◌||◌, T, ◌⊎◌, List, [], ◌∷◌, ◌++◌, length, ◌==◌, ◌≢◌, nat_lt}
 use Rattle.model.specs.Words.{is_in}
 use Rattle.model.specs.Promise.{all_below}
-use Rattle.model.specs.Flood.{Item, fresher, Copy, Setup, Net, Act, Turns, Speaks, Tells, Gets, Back, act, net}
+use Rattle.model.specs.Flood.{fresher, Copy, Setup, Net, Act, Turns, Speaks, Tells, Gets, Back, act, net}
 
 -- One tag is one item of one subject, whoever has it.
 abbrev pub OneTagFor : Type 0 → Type 0

@@ -1,6 +1,6 @@
 -- Forwarding by any rule that picks a next place on a least way, and maps that agree on a part closed under roads. Assumes nothing.
-use Rattle.std.specs.Prelude.{◌≡◌, ℕ, zero, suc, ◌+◌, ◌<◌, ◌≤◌, Bool, true, false, cond, T, List, [], ◌∷◌, length, ◌==◌}
-use Rattle.model.specs.Map.{Map, Far, Never, At, plus, far, Hop, Nowhere, To, hop}
+use Rattle.std.specs.Prelude.{◌≡◌, ℕ, zero, suc, ◌<◌, ◌≤◌, Bool, false, cond, T, List, [], ◌∷◌, length, ◌==◌}
+use Rattle.model.specs.Map.{Map, Never, At, plus, far, Hop, Nowhere, To, hop}
 use Rattle.model.specs.Promise.{is_way, last, cost_of}
 
 -- the places from the next one on, none if there is none

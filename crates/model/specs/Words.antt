@@ -1,7 +1,5 @@
 -- Routers that send each other what they know of all, roads that each end opens and closes by itself, words that come late, and routers that fall. Assumes nothing.
-use Rattle.std.specs.Prelude.{◌≡◌, ℕ, zero, suc, ◌+◌, ◌*◌, ◌/◌, ◌%◌, ◌<◌, ◌≤◌, Bool, true, false, cond, not, ◌&&◌, ◌||◌, T, List, [], ◌∷◌, ◌++◌, length, ◌==◌, nat_lt}
-use mathlib.Core.List.{Memᴰ}
-use Rattle.model.specs.Map.{Map}
+use Rattle.std.specs.Prelude.{ℕ, zero, suc, Bool, false, cond, not, ◌&&◌, ◌||◌, List, [], ◌∷◌, ◌++◌, ◌==◌, nat_lt}
 
 -- what a router said of its own roads: a number, a tag that is never drawn twice, and what each road from it costs. Number 0: it hasn't said anything
 pub record Entry : Type 0 where

@@ -1,6 +1,8 @@
 // Numbers of several bytes, high byte first: read from the front of a slice, and written into a lent one.
 //
 // It knows nothing of what the numbers mean. It promises which number was read and what is left, and which bytes were written and that no other changed.
+#![tactic(auto)]
+
 ghost use Rattle.std.specs.Prelude.{◌≡◌, ℕ, ◌+◌, ◌^◌, ◌<◌, ◌≤◌, [], ◌∷◌, length, IfOk};
 ghost use Rattle.octets.specs.Writes.{Bytes, octets, put};
 ghost use Rattle.octets.specs.Reads.{with_left, below, byte, end, number, positive};

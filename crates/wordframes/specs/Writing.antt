@@ -1,8 +1,9 @@
--- The bytes of each value. Numbers have their high byte first.
+-- The bytes of each value, and what a writer leaves in a buffer. Numbers have their high byte first.
 -- Assumes nothing.
 use Rattle.std.specs.Prelude.{ℕ, zero, suc, cond, List, [], ◌∷◌, ◌++◌, length, take, ◌==◌, slice_index}
 use Rattle.std.specs.List.{flat_map}
 use Rattle.octets.specs.Writes.{octets}
+pub use Rattle.octets.specs.Writes.{Wrote}
 use Rattle.messages.specs.declared.values.Word.{Word}
 use Rattle.messages.specs.declared.values.WordId.{WordId}
 use Rattle.messages.specs.declared.values.Seens.{Seens}

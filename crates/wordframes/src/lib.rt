@@ -1,6 +1,8 @@
 // The bytes of words and of what was seen: values to bytes and back.
 //
 // It knows the values and the numbers of several bytes, and nothing of other frames. It promises what is read for every list of bytes, and what is written.
+#![tactic(auto)]
+
 mod id_bytes;
 mod roads_bytes;
 mod seens_bytes;

@@ -1,9 +1,9 @@
 // The bytes of what was seen: 3, the drawn number, how many, and the numbers of each word.
 ghost use Rattle.std.specs.Prelude.{◌≡◌, ℕ, ◌+◌, ◌*◌, ◌≤◌, length};
 ghost use Rattle.octets.specs.Reads.{with_left};
-ghost use Rattle.octets.specs.Writes.{put, Wrote};
+ghost use Rattle.octets.specs.Writes.{put};
 ghost use Rattle.wordframes.specs.Reading.{each, ids_in, low_count, seens_in};
-ghost use Rattle.wordframes.specs.Writing.{bytes_of_seens, bytes_of_ids};
+ghost use Rattle.wordframes.specs.Writing.{bytes_of_seens, bytes_of_ids, Wrote};
 
 use crate::id_bytes::{how_many, id, put_id};
 use messages::{Seens, WordId};

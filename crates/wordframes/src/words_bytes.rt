@@ -1,9 +1,9 @@
 // The bytes of words: 2, the drawn number, how many, and each word: its numbers, how many roads, and the roads.
 ghost use Rattle.std.specs.Prelude.{◌≡◌, ℕ, ◌+◌, ◌*◌, ◌≤◌, length};
 ghost use Rattle.octets.specs.Reads.{with_left};
-ghost use Rattle.octets.specs.Writes.{put, Wrote};
+ghost use Rattle.octets.specs.Writes.{put};
 ghost use Rattle.wordframes.specs.Reading.{each, low_word, word_in, word_items_in, words_in};
-ghost use Rattle.wordframes.specs.Writing.{bytes_of_word, bytes_of_word_items, bytes_of_words};
+ghost use Rattle.wordframes.specs.Writing.{bytes_of_word, bytes_of_word_items, bytes_of_words, Wrote};
 
 use crate::id_bytes::{how_many, id, put_id};
 use crate::roads_bytes::{put_roads, road_count, roads};

@@ -4,7 +4,7 @@ use Rattle.model.specs.Promise.{all_below}
 use Rattle.net.specs.Nets.{calm_at}
 use Rattle.net.proofs.Alls.{all_none, all_more, all_fails}
 use Rattle.net.proofs.Calm.{rest_sound, rest_complete}
-use Rattle.net.proofs.rest.at_rest_lem.Goals as goal
+use Rattle.net.proofs.rest.at_rest.Goals as goal
 
 pub loop-a-init : goal.loop-a-init
 loop-a-init c = all_none _

@@ -13,12 +13,12 @@ returns-then-at-to c =
     λ ld h. sym (follow_here (length c.args.boxes.now - c.loop-turn.turn) (box_in c.args.boxes.now) c.args.to c.loop-turn.cost c.loop-turn.at (omega arith) c.if-at-to.true) ∙ c.loop-turn.invariant.3 h ld in
     record { end = λ few lu ld h. ends ld h; delivers = λ lu ld few. delivers_so c.args.boxes.now c.args.from c.args.to (Arrived c.loop-turn.cost) (ends ld) lu ld }
 
-pub returns-in-default : goal.returns-in-default
-returns-in-default c =
+pub returns-in_default : goal.returns-in_default
+returns-in_default c =
     let at_box = box_read c.args.boxes.now c.loop-turn.at c.index-boxes-at.result c.loop-turn.invariant.0 c.index-boxes-at.is in
     let ends : c.args.to < length c.args.boxes.now → Numbered c.args.boxes.now → Refused c.loop-turn.at ≡ follows (length c.args.boxes.now) (box_in c.args.boxes.now) c.args.to 0 c.args.from =
     λ ld h. sym (follow_none (length c.args.boxes.now - c.loop-turn.turn) (box_in c.args.boxes.now) c.args.to c.loop-turn.cost c.loop-turn.at (omega arith) c.if-at-to.false
-    (hand_at c.args.boxes.now c.loop-turn.at c.args.to c.index-boxes-at.result Nowhere at_box h c.loop-turn.invariant.0 ld c.in-default.ensures.inside)) ∙ c.loop-turn.invariant.3 h ld in
+    (hand_at c.args.boxes.now c.loop-turn.at c.args.to c.index-boxes-at.result Nowhere at_box h c.loop-turn.invariant.0 ld c.in_default.ensures.inside)) ∙ c.loop-turn.invariant.3 h ld in
     record { end = λ few lu ld h. ends ld h; delivers = λ lu ld few. delivers_so c.args.boxes.now c.args.from c.args.to (Refused c.loop-turn.at) (ends ld) lu ld }
 
 -- a next box beyond the net is named by no box that is numbered

@@ -15,13 +15,13 @@ returns-in_err-low c =
       fits = tt;
     })
 
-pub overflow-mul-x : goal.overflow-mul-x
-overflow-mul-x c =
+pub overflow_mul-x : goal.overflow_mul-x
+overflow_mul-x c =
     let h : c.loop.x * 256 + 0 < 256 ^ (c.loop.counter + 1) = pow_more _ _ 0 c.loop.invariant.1 (omega arith) in
     omega (arith, pow_fits (c.loop.counter + 1) (omega arith))
 
-pub overflow-add-x : goal.overflow-add-x
-overflow-add-x c =
+pub overflow_add-x : goal.overflow_add-x
+overflow_add-x c =
     let h : c.loop.x * 256 + c.from.result < 256 ^ (c.loop.counter + 1) = pow_more _ _ _ c.loop.invariant.1 (omega arith) in
     omega (arith, pow_fits (c.loop.counter + 1) (omega arith))
 

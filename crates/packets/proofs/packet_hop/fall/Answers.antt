@@ -11,7 +11,7 @@ returns c =
     let h = c.args.header.now in
     let s : c.from_be_bytes-sum.result ≡ word_at h 10 = c.from_be_bytes-sum.ensures in
     let o : c.from_be_bytes-old.result ≡ word_at h 8 = c.from_be_bytes-old.ensures in
-    let e = word_as (set h 8 (ttl_of h - 1)) 10 c.mended.result c.to_be_bytes.result c.mended.type-inv c.to_be_bytes.ensures in
+    let e = word_as (set h 8 (ttl_of h - 1)) 10 c.mended.result c.to_be_bytes.result c.mended.type_inv c.to_be_bytes.ensures in
     let m : c.mended.result ≡ mended_sum (word_at h 10) (word_at h 8) (word_at h 8 - 256)
     = c.mended.ensures.value ∙ ap₂ (λ (x y : ℕ). mended_sum x y (y - 256)) s o in
     let t : TtlFalls (word_at h 10) (word_at h 8) (word_at h 8 - 256) c.mended.result

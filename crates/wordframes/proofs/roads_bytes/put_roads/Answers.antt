@@ -50,11 +50,11 @@ loop-i-preserved c =
           let w1 = then_byte c.loop-i.i c.loop-i.invariant (omega arith) w.put_byte-next.ensures.wrote w.put_byte-next.ensures.next in
           let w2 = then_number 2 w.from-then-cost-ne0.result w1 (omega (arith, w.put_byte-next.ensures.next)) w.put_number-next.ensures.wrote w.put_number-next.ensures.next in
           let v : w.from-then-cost-ne0.result ≡ get_or c.args.costs c.loop-i.i 0 = w.from-then-cost-ne0.ensures ∙ ap (λ i. get_or c.args.costs i 0) f in
-          rw (w.out-is, w.next_is)
+          rw (w.out-is, w.next-is)
           (written_as (ap (λ x. (flat_map bytes_of_road (roads_to c.args.costs c.loop-i.i) ++ (c.loop-i.i ∷ [])) ++ octets 2 x) v ∙ more_bytes c.args.costs c.loop-i.i z) w2)
       | else-cost-ne0 w ↦
           let z = rw f at w.if-cost-ne0.false in
-          rw (w.out-is, w.next_is, roads_skip c.args.costs c.loop-i.i z) c.loop-i.invariant
+          rw (w.out-is, w.next-is, roads_skip c.args.costs c.loop-i.i z) c.loop-i.invariant
     ]
 
 pub returns : goal.returns

@@ -8,8 +8,8 @@ pub loop-i-init : goal.loop-i-init
 unfolding roads_to
 loop-i-init c = refl
 
-pub overflow-add-count : goal.overflow-add-count
-overflow-add-count c = omega (arith, c.loop-i.invariant, roads_few c.args.costs c.loop-i.i)
+pub overflow_add-count : goal.overflow_add-count
+overflow_add-count c = omega (arith, c.loop-i.invariant, roads_few c.args.costs c.loop-i.i)
 
 pub loop-i-preserved : goal.loop-i-preserved
 loop-i-preserved c =

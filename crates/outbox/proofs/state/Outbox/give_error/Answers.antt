@@ -8,21 +8,21 @@ use Rattle.outbox.proofs.Sealing.{same_parcel}
 use Rattle.outbox.proofs.state.Outbox.give_error.Goals as goal
 
 -- there is always room for it
-pub returns-in-default : goal.returns-in-default
-returns-in-default c = absurd (omega (arith, c.in-default.ensures.wrote.0, error_small c.args.me c.args.trouble c.args.packet.now))
+pub returns-in_default : goal.returns-in_default
+returns-in_default c = absurd (omega (arith, c.in_default.ensures.wrote.0, error_small c.args.me c.args.trouble c.args.packet.now))
 
 pub slice-bounds-write_packet-end : goal.slice-bounds-write_packet-end
 slice-bounds-write_packet-end c =
     let h : c.in-Some.long ≤ 56 = omega (arith, c.in-Some.ensures.wrote.0, error_small c.args.me c.args.trouble c.args.packet.now) in
     search rules
 
-pub returns-in-default-write_packet : goal.returns-in-default-write_packet
-returns-in-default-write_packet c =
+pub returns-in_default-write_packet : goal.returns-in_default-write_packet
+returns-in_default-write_packet c =
     let l : length c.args.self.now.bytes ≡ 65536 = search rules in
     let m : length (mid_of (c.args.self.now.used + 3) (65536 - (c.args.self.now.used + 3)) c.args.self.now.bytes) ≡ 65536 - (c.args.self.now.used + 3) = simp (length-take, length-drop) (omega arith) in
     let h : c.in-Some.long ≤ 56 = omega (arith, c.in-Some.ensures.wrote.0, error_small c.args.me c.args.trouble c.args.packet.now) in
     let k : length (take (c.in-Some.long - 0) c.write_error.new.out) ≤ 56 = simp length-take (omega arith) in
-    absurd (omega (arith, c.in-default-write_packet.ensures.wrote.0, c.requires))
+    absurd (omega (arith, c.in_default-write_packet.ensures.wrote.0, c.requires))
 
 pub seal-requires : goal.seal-requires
 seal-requires c =

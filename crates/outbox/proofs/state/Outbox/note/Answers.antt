@@ -6,11 +6,11 @@ use Rattle.outbox.proofs.Sealing.{same_parcel}
 use Rattle.outbox.proofs.state.Outbox.note.Goals as goal
 
 -- there is always room for it
-pub returns-in-default : goal.returns-in-default
-returns-in-default c =
+pub returns-in_default : goal.returns-in_default
+returns-in_default c =
     let l : length c.args.self.now.bytes ≡ 65536 = search rules in
     let m : length (mid_of (c.args.self.now.used + 3) (65536 - (c.args.self.now.used + 3)) c.args.self.now.bytes) ≡ 65536 - (c.args.self.now.used + 3) = simp (length-take, length-drop) (omega arith) in
-    absurd (omega (arith, c.in-default.ensures.wrote.0, line_small c.args.line, c.requires))
+    absurd (omega (arith, c.in_default.ensures.wrote.0, line_small c.args.line, c.requires))
 
 pub close-requires : goal.close-requires
 close-requires c = omega (arith, c.in-Some.ensures.wrote.0, line_small c.args.line, c.requires)

@@ -1,7 +1,7 @@
 -- There are roads to boxes below 64 only.
 use Rattle.std.proofs.Common.{◌≡◌, ℕ, ltb, length, sym, ap, ◌∙◌, rules, le-ltb}
 use Rattle.router.proofs.Tables.{at_past}
-use Rattle.router.proofs.state.Router.is_open_lem.Goals as goal
+use Rattle.router.proofs.state.Router.is_open.Goals as goal
 
 pub returns-else-to-lt64 : goal.returns-else-to-lt64
 returns-else-to-lt64 c =
