@@ -2,6 +2,8 @@
 //
 // It knows nothing of wires, sums or a box's state. It promises what is read for every list of bytes, what is written, that what was written is read again,
 // and that only what is written for a value reads as it.
+#![tactic(auto)]
+
 mod frame_bytes;
 mod hello_bytes;
 mod line_bytes;

@@ -2,6 +2,8 @@
 //
 // It knows nothing of wires, ways or a box's state. It promises, for every list of bytes, which errand or refusal it is and what is left in a lent buffer; that what
 // it hands on, answers or writes is a right packet to every box after; and that no second has more than ten errors.
+#![tactic(auto)]
+
 mod error_quota;
 mod packet_echo;
 mod packet_errand;

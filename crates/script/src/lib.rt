@@ -3,6 +3,8 @@
 // This crate knows bytes and nothing of nets: whether a box or a wire exists is for the net to say.
 // It promises that every line of bytes is read as one command or refused, that the numbers of a command that is read are in range,
 // and that a command whose numbers are in range is read back as itself once it is written.
+#![tactic(auto)]
+
 mod command;
 mod line;
 mod text;

@@ -3,8 +3,8 @@ use Rattle.frames.specs.Writing.{bytes_of_line}
 use Rattle.frames.proofs.Lines.{front_of, line_only}
 use Rattle.frames.proofs.line_bytes.read_line.Goals as goal
 
-pub overflow-sub-result : goal.overflow-sub-result
-overflow-sub-result c =
+pub overflow_sub-result : goal.overflow_sub-result
+overflow_sub-result c =
     let i = line_only c.args.n c.requires c.args.bytes.now _ _ c.in_ok-line.ensures.fits c.in_ok-line.ensures.reads in
     (front_of (bytes_of_line c.in_ok-line.line) _ c.args.bytes.now i.is).0
 

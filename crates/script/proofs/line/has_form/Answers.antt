@@ -8,14 +8,16 @@ use Rattle.std.proofs.lemmas.Bool.Decides.{Decides-eqb}
 
 pub returns-then-eq : goal.returns-then-eq
 returns-then-eq c =
-    let e = same_is _ _ _ (slice_eq-Decides Decides-eqb _ _ _ c.eq.ensures) in
+    let e : c.eq.result ≡ bytes_eq c.part.result.now c.args.word.now =
+    same_is c.part.result.now c.args.word.now c.eq.result (slice_eq-Decides Decides-eqb c.part.result.now c.args.word.now c.eq.result c.eq.ensures) in
     let word : bytes_eq (part_of 0 c.args.line.now) c.args.word.now ≡ true =
     ap (λ s. bytes_eq s c.args.word.now) (sym c.part.ensures) ∙ sym e ∙ c.if-eq.true in
     ap (λ n. eqb n c.args.count) c.parts.ensures ∙ ap (λ b. b && eqb (parts_of c.args.line.now) c.args.count) (sym word)
 
 pub returns-else-eq : goal.returns-else-eq
 returns-else-eq c =
-    let e = same_is _ _ _ (slice_eq-Decides Decides-eqb _ _ _ c.eq.ensures) in
+    let e : c.eq.result ≡ bytes_eq c.part.result.now c.args.word.now =
+    same_is c.part.result.now c.args.word.now c.eq.result (slice_eq-Decides Decides-eqb c.part.result.now c.args.word.now c.eq.result c.eq.ensures) in
     let word : bytes_eq (part_of 0 c.args.line.now) c.args.word.now ≡ false =
     ap (λ s. bytes_eq s c.args.word.now) (sym c.part.ensures) ∙ sym e ∙ c.if-eq.false in
     c.if-eq.false ∙ ap (λ b. b && eqb (parts_of c.args.line.now) c.args.count) (sym word)
