@@ -2,6 +2,8 @@
 //
 // It knows what a journal says and nothing of files or of printing. It promises which roads a box's least ways take by the words that it had, and of what
 // several boxes have of one which is the newest and who has an older.
+#![tactic(auto)]
+
 mod held;
 mod way;
 
