@@ -118,7 +118,7 @@ box_code n a l = record {
   sends_so = sends_stands n a l;
   hears_so = λ s es i t x st h here f. stands_of n a (hears x t s) (Comes i t ∷ es) l (hears_like n a l s es i t x st h here f);
   hears_not = hears_else n a l;
-  falls_so_lem = λ s es st. more n a l es (Falls a) (forgets s) (like_falls n a l (world n es) (world_n n es) s (like n a l s es st));
+  falls_so = λ s es st. more n a l es (Falls a) (forgets s) (like_falls n a l (world n es) (world_n n es) s (like n a l s es st));
   others = λ s es e st f h. more n a l es e s (like_others n a l (world n es) (world_n n es) s e f h (like n a l s es st));
   hands_on_so = λ s es d st ld. like_hands n a (world n es) s d (world_n n es) (like n a l s es st);
   owes = must_say;
@@ -127,7 +127,7 @@ box_code n a l = record {
   open_so = λ s es e st le. like_open n a (world n es) s e (like n a l s es st);
   shown = λ e i s. s.shown e i;
   tells = tells;
-  tells_so_lem = λ s es e st le o. like_tells n a (world n es) s e (like n a l s es st);
+  tells_so = λ s es e st le o. like_tells n a (world n es) s e (like n a l s es st);
   seen = sees;
   seen_so = λ s es e i c t st. stands_of n a (sees e i c t s) es l (like_sees n a l (world n es) (world_n n es) s e i c t (like n a l s es st));
   shown_opens = opens_blank;
@@ -147,7 +147,7 @@ box_shows n a l = record {
       (subst (λ (y : Entry). same_word ((world n es).knows a i) y ≡ true) (k.knows i) (same_self ((world n es).knows a i)));
   by_word = λ s es j t x st h here f o same.
       hears_shows s x t (subst (λ c. 0 < c) ((like n a l s es st).real x.from) o) (subst (λ (y : Entry). same_word x.entry y ≡ true) ((hears_like n a l s es j t x st h here f).knows x.about) same);
-  over_road_lem = λ s es e c f i st h o. road_keeps s e c f i h (λ same. let r = o same in (r.0, subst (λ c. 0 < c) ((like n a l s es st).real e) r.1));
+  over_road = λ s es e c f i st h o. road_keeps s e c f i h (λ same. let r = o same in (r.0, subst (λ c. 0 < c) ((like n a l s es st).real e) r.1));
   over_says = λ s es t f i st h other. has_keeps s s.me (own_word (s.word s.me).number t s) f i h (λ same. other (same ∙ (like n a l s es st).self));
   over_word = λ s es j t x f i st h here fresh g same.
       hears_keeps s x t f i g (subst₂ (λ (y z : Entry). same_word y z ≡ true) ((like n a l s es st).knows i) ((hears_like n a l s es j t x st h here fresh).knows i) same);

@@ -44,7 +44,7 @@ pub record Code (n a : ℕ) : Type 1 where
   pub sends_so : (s : State) (es : List Ev) (e i : ℕ) → e < n → i < n → Stands s es → Stands s (Sends a e i ∷ es) × (0 < (world n es).real a e → (world n (Sends a e i ∷ es)).flight ≡ word e i s ∷ (world n es).flight)
   pub hears_so : (s : State) (es : List Ev) (i t : ℕ) (x : Word) → Stands s es → nth_is i x (world n es).flight → x.to ≡ a → is_in t (world n es).drawn ≡ false → Stands (hears x t s) (Comes i t ∷ es)
   pub hears_not : (s : State) (es : List Ev) (i t : ℕ) (x : Word) → Stands s es → nth_is i x (world n es).flight → (x.to ≢ a) → Stands s (Comes i t ∷ es)
-  pub falls_so_lem : (s : State) (es : List Ev) → Stands s es → Stands (falls s) (Falls a ∷ es)
+  pub falls_so : (s : State) (es : List Ev) → Stands s es → Stands (falls s) (Falls a ∷ es)
   pub others : (s : State) (es : List Ev) (e : Ev) → Stands s es → of_box a e ≡ false → ((i t : ℕ) → e ≢ Comes i t) → Stands s (e ∷ es)
   pub hands_on_so : (s : State) (es : List Ev) (d : ℕ) → Stands s es → d < n → hands_on d s ≡ hop (map_of (world n es) a) d a
   -- what it must do: say when its word isn't so, and tell what a neighbour hasn't shown that it has
@@ -54,7 +54,7 @@ pub record Code (n a : ℕ) : Type 1 where
   pub open_so : (s : State) (es : List Ev) (e : ℕ) → Stands s es → e < n → open' e s ≡ nat_lt 0 ((world n es).real a e)
   pub shown : (to about : ℕ) → State → Bool
   pub tells : (to : ℕ) → State → List ℕ
-  pub tells_so_lem : (s : State) (es : List Ev) (e : ℕ) → Stands s es → e < n → open' e s ≡ true → tells e s ≡ pick n 4 (λ i. nat_lt 0 ((world n es).knows a i).number && not (shown e i s)) 0
+  pub tells_so : (s : State) (es : List Ev) (e : ℕ) → Stands s es → e < n → open' e s ≡ true → tells e s ≡ pick n 4 (λ i. nat_lt 0 ((world n es).knows a i).number && not (shown e i s)) 0
   -- shown only by a word of this box's that comes from that neighbour, or a seen of it, for the very word that this box has; nothing is when a road opens, nor of a word that this box took or said anew, but for the one who told it
   pub seen : (from about number tag : ℕ) → State → State
   pub seen_so : (s : State) (es : List Ev) (e i c t : ℕ) → Stands s es → Stands (seen e i c t s) es

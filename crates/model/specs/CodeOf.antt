@@ -21,7 +21,7 @@ pub record CodeOf (n a : ℕ) (State : Type 0) (Stands : State → List Ev → T
   pub sends_so : (s : State) (es : List Ev) (e i : ℕ) → e < n → i < n → Stands s es → Stands s (Sends a e i ∷ es) × (0 < (world n es).real a e → (world n (Sends a e i ∷ es)).flight ≡ word e i s ∷ (world n es).flight)
   pub hears_so : (s : State) (es : List Ev) (i t : ℕ) (x : Word) → Stands s es → nth_is i x (world n es).flight → x.to ≡ a → is_in t (world n es).drawn ≡ false → Stands (hears x t s) (Comes i t ∷ es)
   pub hears_not : (s : State) (es : List Ev) (i t : ℕ) (x : Word) → Stands s es → nth_is i x (world n es).flight → (x.to ≢ a) → Stands s (Comes i t ∷ es)
-  pub falls_so_lem : (s : State) (es : List Ev) → Stands s es → Stands (falls s) (Falls a ∷ es)
+  pub falls_so : (s : State) (es : List Ev) → Stands s es → Stands (falls s) (Falls a ∷ es)
   pub others : (s : State) (es : List Ev) (e : Ev) → Stands s es → of_box a e ≡ false → ((i t : ℕ) → e ≢ Comes i t) → Stands s (e ∷ es)
   pub hands_on_so : (s : State) (es : List Ev) (d : ℕ) → Stands s es → d < n → hands_on d s ≡ hop (map_of (world n es) a) d a
   -- what it must do: say when its word isn't so, and tell what a neighbour hasn't shown that it has
@@ -31,7 +31,7 @@ pub record CodeOf (n a : ℕ) (State : Type 0) (Stands : State → List Ev → T
   pub open_so : (s : State) (es : List Ev) (e : ℕ) → Stands s es → e < n → open' e s ≡ nat_lt 0 ((world n es).real a e)
   pub shown : (to about : ℕ) → State → Bool
   pub tells : (to : ℕ) → State → List ℕ
-  pub tells_so_lem : (s : State) (es : List Ev) (e : ℕ) → Stands s es → e < n → open' e s ≡ true → tells e s ≡ pick n 4 (λ i. nat_lt 0 ((world n es).knows a i).number && not (shown e i s)) 0
+  pub tells_so : (s : State) (es : List Ev) (e : ℕ) → Stands s es → e < n → open' e s ≡ true → tells e s ≡ pick n 4 (λ i. nat_lt 0 ((world n es).knows a i).number && not (shown e i s)) 0
   -- shown only by a word of this box's that comes from that neighbour, or a seen of it, for the very word that this box has; nothing is when a road opens, nor of a word that this box took or said anew, but for the one who told it
   pub seen : (from about number tag : ℕ) → State → State
   pub seen_so : (s : State) (es : List Ev) (e i c t : ℕ) → Stands s es → Stands (seen e i c t s) es
@@ -48,7 +48,7 @@ pub record Shows (State : Type 0) (Stands : State → List Ev → Type 0) (n a :
   pub by_seen : (s : State) (es : List Ev) (e i : ℕ) → Stands s es → e < n → 0 < (world n es).real a e → code.shown e i (code.seen e i ((world n es).knows a i).number ((world n es).knows a i).tag s) ≡ true
   pub by_word : (s : State) (es : List Ev) (j t : ℕ) (x : Word) → Stands s es → nth_is j x (world n es).flight → x.to ≡ a → is_in t (world n es).drawn ≡ false → 0 < (world n es).real a x.from →
       same_word x.entry ((world n (Comes j t ∷ es)).knows a x.about) ≡ true → code.shown x.from x.about (code.hears x t s) ≡ true
-  pub over_road_lem : (s : State) (es : List Ev) (e c f i : ℕ) → Stands s es → code.shown f i s ≡ true → (f ≡ e → (0 < c) × (0 < (world n es).real a e)) → code.shown f i (code.road e c s) ≡ true
+  pub over_road : (s : State) (es : List Ev) (e c f i : ℕ) → Stands s es → code.shown f i s ≡ true → (f ≡ e → (0 < c) × (0 < (world n es).real a e)) → code.shown f i (code.road e c s) ≡ true
   pub over_says : (s : State) (es : List Ev) (t f i : ℕ) → Stands s es → code.shown f i s ≡ true → (i ≢ a) → code.shown f i (code.says t s) ≡ true
   pub over_word : (s : State) (es : List Ev) (j t : ℕ) (x : Word) (f i : ℕ) → Stands s es → nth_is j x (world n es).flight → x.to ≡ a → is_in t (world n es).drawn ≡ false → code.shown f i s ≡ true →
       same_word ((world n es).knows a i) ((world n (Comes j t ∷ es)).knows a i) ≡ true → code.shown f i (code.hears x t s) ≡ true
