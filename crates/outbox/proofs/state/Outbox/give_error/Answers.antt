@@ -11,8 +11,8 @@ use Rattle.outbox.proofs.state.Outbox.give_error.Goals as goal
 pub returns-in_default : goal.returns-in_default
 returns-in_default c = absurd (omega (arith, c.in_default.ensures.wrote.0, error_small c.args.me c.args.trouble c.args.packet.now))
 
-pub slice-bounds-write_packet-end : goal.slice-bounds-write_packet-end
-slice-bounds-write_packet-end c =
+pub slice_bounds-write_packet-end : goal.slice_bounds-write_packet-end
+slice_bounds-write_packet-end c =
     let h : c.in-Some.long ≤ 56 = omega (arith, c.in-Some.ensures.wrote.0, error_small c.args.me c.args.trouble c.args.packet.now) in
     search rules
 
