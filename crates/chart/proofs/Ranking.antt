@@ -1,9 +1,8 @@
 -- Going before is an order, so what is kept going through all is the newest.
-use Rattle.std.proofs.Common.{◌≡◌, ℕ, true, false, List, ◌∷◌, get_or, ◌∙◌, subst, arith}
+use Rattle.std.proofs.Common.{◌≡◌, true, false, List, ◌∷◌, get_or, ◌∙◌, subst, arith}
 use Rattle.std.specs.Cmp.{IsStrictWeakOrder}
 use Rattle.std.specs.List.{best_of}
 use Rattle.std.proofs.lemmas.List.MinMax.{IsFirstBest-from_best_of}
-use Rattle.std.proofs.ByRecursion.{All-from_get_or}
 use Rattle.std.proofs.lemmas.List.{get_or_default}
 use Rattle.std.proofs.lemmas.Bool.Decides.{nat_tests}
 use Rattle.chart.specs.declared.held.Held.{Held}
@@ -21,5 +20,5 @@ ranks = record { one_way = one_way; chain = chain }
 pub newest_of : (first : Held) (others : List Held) → Newest first others (best_of goes_before first others)
 newest_of first others =
     let h = IsFirstBest-from_best_of ranks first others in
-    let P : ℕ → Held → Type 0 = λ i r. goes_before (get_or (first ∷ others) i first) r ≡ false in
-    ((h.0, h.1.0, λ d. get_or_default (first ∷ others) h.0 d first h.1.0 ∙ h.2), All-from_get_or (λ x. goes_before x (best_of goes_before first others) ≡ false) (first ∷ others) first (λ i l. subst (P i) h.2 (h.1.1 i first l)))
+    let best = λ (d : Held). get_or_default (first ∷ others) h.0 d first h.1.0 ∙ h.2 in
+    ((h.0, h.1.0, best (best_of goes_before first others)), λ i d l. subst (λ r. goes_before (get_or (first ∷ others) i d) r ≡ false) (best d) (h.1.1 i d l))

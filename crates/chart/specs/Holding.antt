@@ -1,6 +1,5 @@
 -- What boxes have of one, and which is the newest. Assumes nothing.
-use Rattle.std.specs.Prelude.{◌≡◌, ℕ, Bool, false, cond, ◌&&◌, ◌||◌, List, ◌∷◌, nat_lt}
-use Rattle.std.specs.List.{ContainsAt as Has, AllByRecursion as All}
+use Rattle.std.specs.Prelude.{◌≡◌, ℕ, Bool, false, cond, ◌&&◌, ◌||◌, List, ◌∷◌, nat_lt, All, Contains}
 use Rattle.messages.specs.Values.{newer_id, same_id}
 use Rattle.journal.specs.Replay.{Known}
 use Rattle.chart.specs.declared.held.Held.{Held}
@@ -15,4 +14,4 @@ goes_before x y = newer_id x.word y.word || (same_id x.word y.word && nat_lt x.b
 
 -- one of these, before which none goes
 abbrev pub Newest : Held → List Held → Held → Type 0
-Newest first others r = Has (first ∷ others) r × All (λ x. goes_before x r ≡ false) (first ∷ others)
+Newest first others r = Contains (first ∷ others) r × All (λ x. goes_before x r ≡ false) (first ∷ others)

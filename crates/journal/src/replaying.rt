@@ -24,7 +24,7 @@ pub fn replay(bytes: &[u8], until: u32) -> Outcome
     ensures fault { result.fault ≡ (replay until bytes.now).fault }
     ensures enough { Enough }
     ensures grows { Grows }
-    ensures byAll { GrowsByAll }
+    ensures by_all { GrowsByAll }
     ensures stops { Stops }
 {
     let mut notes = Notes::begun(0, 0);

@@ -30,7 +30,7 @@ returns-in-None c =
       fault = ap (λ (z : Replayed). z.fault) e;
       enough = enough;
       grows = grows;
-      byAll = grows_by_all_lem;
+      by_all = grows_by_all_lem;
       stops = stops;
     }
 
@@ -47,6 +47,6 @@ returns-in-Err c =
       fault = ap (λ (z : Replayed). z.fault) e;
       enough = enough;
       grows = grows;
-      byAll = grows_by_all_lem;
+      by_all = grows_by_all_lem;
       stops = stops;
     }
