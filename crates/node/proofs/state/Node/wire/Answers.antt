@@ -19,8 +19,8 @@ use Rattle.node.specs.State.{whole_of}
 use Rattle.node.proofs.Heard.{by_reading, did_reading, fits_long, handled_by_lem, no_reading, passed_by_lem, still}
 use Rattle.node.proofs.state.Node.wire.Goals as goal
 
-pub overflow-sub-end : goal.overflow-sub-end
-overflow-sub-end c = fits_long c.args.frame.now (c.if-not-sum_fits.ensures.fits.0 refl)
+pub overflow_sub-end : goal.overflow_sub-end
+overflow_sub-end c = fits_long c.args.frame.now (c.if-not-sum_fits.ensures.fits.0 refl)
 
 pub returns-then-cost-eq0 : goal.returns-then-cost-eq0
 returns-then-cost-eq0 c =
