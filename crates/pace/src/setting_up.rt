@@ -3,6 +3,7 @@ use messages::{Hello, Settings, Word, WordId, Words};
 use node::Node;
 use outbox::Outbox;
 
+#[derive(Drop)]
 pub(crate) struct Setup {
     pub(crate) node: Node,
     pub(crate) frame: [u8; 69],
