@@ -3,6 +3,7 @@
 // The boxes are gone through in the order of their distances, each once. Between turns `edge` has, for each box, the least distance by ways
 // over boxes gone through: `NEVER` if none leads there yet, and 0 once the box itself is gone through. Roads cost more than 0, so that says
 // which are open, and a box gone through takes no offer.
+#![tactic(auto)]
 
 ghost use Rattle.std.specs.Prelude.{◌≡◌, ℕ, ◌+◌, ◌<◌, ◌≤◌, length, ◌≢◌, slice_index, slice_set};
 ghost use Rattle.ways.specs.Turns.{less_of, next_of, After, Same, Begun};
