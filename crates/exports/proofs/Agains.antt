@@ -1,5 +1,5 @@
 -- A buffer after bytes were written again, and how long a journal line can be.
-use Rattle.std.proofs.Common.{◌≡◌, ℕ, ◌+◌, ◌-◌, ◌*◌, ◌<◌, ◌≤◌, true, false, leb, List, ◌∷◌, length, take, drop, Some, None, Option, unwrap_or, sym, ap, ◌∙◌, arith, length-append, length-drop, length-take}
+use Rattle.std.proofs.Common.{◌≡◌, ℕ, ◌+◌, ◌-◌, ◌<◌, ◌≤◌, true, false, leb, List, ◌∷◌, length, take, drop, Some, None, Option, unwrap_or, ap, arith, length-append, length-drop, length-take}
 use Rattle.std.proofs.lemmas.Bool.{le-leb, lt-leb}
 use Rattle.messages.specs.declared.values.Word.{Word}
 use Rattle.octets.specs.Writes.{Wrote, octets, put}

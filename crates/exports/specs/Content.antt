@@ -1,6 +1,6 @@
 -- What a frame holds, as rows of numbers.
 -- Assumes nothing.
-use Rattle.std.specs.Prelude.{ℕ, cond, ◌&&◌, List, [], ◌∷◌, ◌++◌, map, length, get_or, replicate, Ok, Err, Result, ◌==◌, nat_le, slice_index_or}
+use Rattle.std.specs.Prelude.{ℕ, cond, ◌&&◌, List, [], ◌∷◌, ◌++◌, length, get_or, replicate, Ok, Err, Result, ◌==◌, nat_le, slice_index_or}
 use Rattle.octets.specs.declared.Fault.{Fault}
 use Rattle.messages.specs.declared.values.Hello.{Hello}
 use Rattle.messages.specs.declared.values.WordId.{WordId}

@@ -2,6 +2,8 @@
 //
 // Nothing checks the declarations on the other side, so these are over numbers and slices alone, and each only hands on to proved functions. It knows the crates of bytes and
 // of ways, and promises of each call its number and all that is left in lent memory, by their definitions.
+#![tactic(auto)]
+
 mod frame_bytes;
 mod frame_content;
 mod least_ways;

@@ -1,5 +1,5 @@
 -- What came over a wire, put together.
-use Rattle.std.proofs.Common.{◌≡◌, ℕ, zero, suc, ◌-◌, ◌≤◌, List, [], ◌∷◌, ◌++◌, length, get_or, take, Some, None, Ok, Err, Option, Result, sym, refl, ap, ◌∙◌, subst, ap₂, append_assoc, arith, length-append}
+use Rattle.std.proofs.Common.{◌≡◌, ℕ, zero, suc, ◌≤◌, List, [], ◌++◌, length, get_or, Some, None, Ok, Err, Option, Result, sym, refl, ap, ◌∙◌, subst, ap₂, append_assoc, arith, length-append}
 use Rattle.std.specs.List.{flat_map}
 use Rattle.octets.specs.declared.Fault.{Fault}
 use Rattle.checksum.specs.Crc.{SumFits, sum_bytes}
@@ -19,7 +19,7 @@ use Rattle.station.specs.declared.state.Station.{Station}
 use Rattle.node.specs.declared.state.Node.{Node}
 use Rattle.node.specs.Giving.{if_refused, note_of, refused_gives}
 use Rattle.node.specs.Handled.{HandledBy, PassedBy}
-use Rattle.node.specs.Hearing.{FrameDid, Handled, by_frame, note_for, notes_for, passed_as, refused_by, unless_refused, untouched}
+use Rattle.node.specs.Hearing.{FrameDid, Handled, by_frame, note_for, notes_for, passed_as, unless_refused}
 use Rattle.node.specs.Passing.{Passed}
 use Rattle.node.specs.State.{whole_of}
 use Rattle.node.specs.Wires.{out_bytes}

@@ -1,12 +1,12 @@
 -- One parcel after the other.
-use Rattle.std.proofs.Common.{◌≡◌, ℕ, suc, ◌+◌, ◌<◌, Bool, true, false, cond, ltb, List, [], ◌∷◌, ◌++◌, get_or, Some, None, Option, sym, refl, ap, ◌∙◌, append_assoc, append-nil, add-one, arith, ltb-true}
+use Rattle.std.proofs.Common.{◌≡◌, ℕ, ◌+◌, ◌<◌, Bool, true, false, cond, ltb, List, [], ◌∷◌, ◌++◌, get_or, Some, None, Option, sym, refl, ap, ◌∙◌, append_assoc, append-nil, add-one, arith, ltb-true}
 use Rattle.std.specs.List.{flat_map}
 use Rattle.messages.specs.declared.values.Hello.{Hello}
 use Rattle.messages.specs.declared.values.Word.{Word}
 use Rattle.messages.specs.declared.values.Words.{Words}
 use Rattle.router.specs.declared.answers.Outcome.{Outcome}
 use Rattle.linkmodel.specs.Links.{Links, road_cost}
-use Rattle.linkmodel.specs.Station.{Out, Station as Whole, wire_to}
+use Rattle.linkmodel.specs.Station.{Station as Whole, wire_to}
 use Rattle.outbox.specs.Parcels.{parcel_bytes}
 use Rattle.station.specs.State.{wire_open}
 use Rattle.station.proofs.LowestWire.{open_wire}

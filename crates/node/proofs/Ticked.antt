@@ -1,5 +1,5 @@
 -- What a tick gives, put together.
-use Rattle.std.proofs.Common.{◌≡◌, ℕ, Bool, cond, List, [], ◌++◌, sym, refl, ap, ◌∙◌, ap₂, append_assoc}
+use Rattle.std.proofs.Common.{◌≡◌, ℕ, Bool, cond, List, [], ◌++◌, sym, ap, ◌∙◌, ap₂, append_assoc}
 use Rattle.std.specs.List.{flat_map}
 use Rattle.linkmodel.specs.Station.{Out, Station as Whole, tick_out}
 use Rattle.node.specs.Book.{Said}

@@ -5,14 +5,13 @@ use Rattle.octets.specs.Writes.{octets}
 use Rattle.messages.specs.Values.{at, entry_of}
 use Rattle.messages.specs.declared.values.Seens.{Seens}
 use Rattle.messages.specs.declared.values.Word.{Word}
-use Rattle.messages.specs.declared.values.WordId.{WordId}
 use Rattle.messages.specs.declared.values.Words.{Words}
-use Rattle.wordframes.specs.Writing.{bytes_of_id, bytes_of_ids, bytes_of_road, bytes_of_roads, bytes_of_seens, bytes_of_word, bytes_of_word_items, bytes_of_words, roads_to}
+use Rattle.wordframes.specs.Writing.{bytes_of_id, bytes_of_road, bytes_of_seens, bytes_of_word, bytes_of_words, roads_to}
 use Rattle.linkmodel.specs.Station.{Item, Shows, Station as Whole, Tells}
 use Rattle.model.specs.Box.{Box}
 use Rattle.model.specs.Words.{Entry as Heard}
-use Rattle.station.specs.Packets.{first_in, seens_of, sight_of, sights_in}
-use Rattle.station.specs.Ticking.{bundle_of, item_of, words_in}
+use Rattle.station.specs.Packets.{first_in, seens_of, sight_of}
+use Rattle.station.specs.Ticking.{bundle_of, item_of}
 use Rattle.frames.specs.Writing.{bytes_of_entry, bytes_of_line}
 use Rattle.frames.specs.declared.values.Entry.{Entry}
 use Rattle.frames.specs.declared.values.Line.{Line}

@@ -1,5 +1,5 @@
 -- What a box gives out at each call, as the bytes of parcels one after the other. Assumes nothing.
-use Rattle.std.specs.Prelude.{◌≡◌, ℕ, Bool, cond, List, [], ◌∷◌, ◌++◌, length, Some, None, Option, nat_lt, slice_index_or}
+use Rattle.std.specs.Prelude.{◌≡◌, ℕ, Bool, cond, List, [], ◌++◌, length, Some, None, Option, nat_lt, slice_index_or}
 use Rattle.std.specs.List.{flat_map}
 use Rattle.messages.specs.declared.values.Words.{Words}
 use Rattle.linkmodel.specs.Links.{Links, road_cost}
@@ -8,7 +8,7 @@ use Rattle.linkmodel.specs.Calls.{expired}
 use Rattle.station.specs.State.{refusal_number}
 use Rattle.station.specs.Ticking.{no_words, packet_on, says_word, ticking_refusal, words_in}
 use Rattle.station.specs.declared.answers.Refusal.{Refusal as Reason}
-use Rattle.node.specs.Book.{Note, Began, Refused, Said, book_bytes}
+use Rattle.node.specs.Book.{Note, Refused, Said, book_bytes}
 use Rattle.node.specs.Wires.{out_bytes}
 
 -- the word that a box has of itself

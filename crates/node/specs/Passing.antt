@@ -1,12 +1,12 @@
 -- What a box does with a packet: where it goes, and what is given out for one that is refused. Assumes nothing.
-use Rattle.std.specs.Prelude.{ℕ, ◌-◌, Bool, true, false, cond, List, [], ◌∷◌, ◌++◌, length, take, drop, Some, None, Ok, Err, Option, Result, ◌==◌, nat_lt}
+use Rattle.std.specs.Prelude.{ℕ, ◌-◌, Bool, cond, List, [], ◌∷◌, ◌++◌, length, take, drop, Some, None, Ok, Err, Option, Result, ◌==◌, nat_lt}
 use Rattle.model.specs.Box.{hop_in}
 use Rattle.model.specs.Map.{Hop, Nowhere, To}
 use Rattle.linkmodel.specs.Station.{Station as Whole}
 use Rattle.outbox.specs.Parcels.{parcel_bytes, sealed}
 use Rattle.outbox.specs.declared.reading.Port.{Port}
 use Rattle.outbox.specs.declared.reading.Port.TheVariants.{House, Wire}
-use Rattle.packets.specs.Errands.{errand_of, refusal_number}
+use Rattle.packets.specs.Errands.{errand_of}
 use Rattle.packets.specs.Errors.{error_of, is_error}
 use Rattle.packets.specs.Packet.{box_from, echoed, handed_on}
 use Rattle.packets.specs.Quotas.{granted}

@@ -1,5 +1,5 @@
 -- A box is switched on, gets other settings and falls: what is left, and what is given out. Assumes nothing.
-use Rattle.std.specs.Prelude.{◌≡◌, ℕ, List, [], ◌∷◌, Some, None, Ok, Err, Option, Result}
+use Rattle.std.specs.Prelude.{◌≡◌, ℕ, List, [], ◌∷◌, Ok, Err, Result}
 use Rattle.octets.specs.declared.Fault.{Fault}
 use Rattle.messages.specs.Values.{at}
 use Rattle.messages.specs.declared.values.Settings.{Settings}

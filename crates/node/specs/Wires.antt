@@ -4,7 +4,6 @@ use Rattle.std.specs.List.{flat_map}
 use Rattle.octets.specs.Writes.{octets}
 use Rattle.wordframes.specs.Writing.{bytes_of_road}
 use Rattle.outbox.specs.Parcels.{parcel_bytes, sealed}
-use Rattle.linkmodel.specs.Links.{Hello}
 use Rattle.linkmodel.specs.Station.{Frame, Greets, Item, Out, Shows, Sight, Tells}
 
 -- the roads of a word to the boxes below k, each with its cost, in rising order

@@ -2,6 +2,8 @@
 //
 // It knows all layers below by their calls. Each call's contract says the whole state that it leaves, what it gives out byte by byte, and what is left in the lent frame;
 // a refused input changes nothing but the journal and the count of errors in that second.
+#![tactic(auto)]
+
 mod notes;
 mod parts;
 mod passing;

@@ -1,6 +1,6 @@
 -- What stands in the buffer once a parcel's head and its sum are written.
-use Rattle.std.proofs.Common.{◌≡◌, ℕ, ◌+◌, ◌-◌, ◌<◌, ◌≤◌, List, [], ◌∷◌, ◌++◌, length, take, drop, sym, refl, ap, ◌∙◌, subst, append_assoc, arith, length-append, length-drop, length-take}
-use Rattle.std.proofs.lemmas.List.{take-append-drop, take_at, drop_at, take_all}
+use Rattle.std.proofs.Common.{◌≡◌, ℕ, ◌+◌, ◌≤◌, List, [], ◌∷◌, ◌++◌, length, take, drop, sym, ap, ◌∙◌, append_assoc, arith, length-append, length-drop, length-take}
+use Rattle.std.proofs.lemmas.List.{take-append-drop, take_at}
 use Rattle.octets.specs.Writes.{octets, put}
 use Rattle.octets.proofs.Puts.{put_put, length_octets}
 use Rattle.outbox.specs.Parcels.{parcel_bytes}

@@ -1,15 +1,15 @@
 -- A frame written behind the place of its parcel's head, and how long frames are.
-use Rattle.std.proofs.Common.{◌≡◌, ℕ, zero, suc, ◌+◌, ◌-◌, ◌*◌, ◌<◌, ◌≤◌, List, [], ◌∷◌, ◌++◌, length, take, drop, Some, None, Option, sym, refl, ap, ◌∙◌, subst, append_assoc, arith, length-append, length-drop, length-take}
+use Rattle.std.proofs.Common.{◌≡◌, ℕ, zero, suc, ◌+◌, ◌-◌, ◌*◌, ◌≤◌, List, [], ◌∷◌, ◌++◌, length, take, drop, Some, sym, ap, ◌∙◌, append_assoc, arith, length-append, length-take}
 use borrow.Rule.Slice.PartMut.{mid_of, put_mid}
 use Rattle.std.specs.List.{flat_map}
 use Rattle.std.proofs.lemmas.List.{take_at, drop_at, take-append-le, take-take}
-use Rattle.octets.specs.Writes.{Wrote, octets, put}
-use Rattle.octets.proofs.Puts.{length_octets, length_put, take_put}
+use Rattle.octets.specs.Writes.{Wrote, put}
+use Rattle.octets.proofs.Puts.{length_octets}
 use Rattle.messages.specs.declared.values.Hello.{Hello}
 use Rattle.messages.specs.declared.values.Word.{Word}
 use Rattle.messages.specs.declared.values.Words.{Words}
 use Rattle.messages.specs.declared.values.Seens.{Seens}
-use Rattle.wordframes.specs.Writing.{bytes_of_seens, bytes_of_word, bytes_of_word_items, bytes_of_words}
+use Rattle.wordframes.specs.Writing.{bytes_of_seens, bytes_of_word, bytes_of_words}
 use Rattle.wordframes.proofs.Roads.{length_word, length_words, roads_few}
 use Rattle.wordframes.proofs.Lengths.{length_seens}
 use Rattle.packets.specs.declared.values.Trouble.{Trouble}

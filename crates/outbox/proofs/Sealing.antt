@@ -1,7 +1,7 @@
 -- What stands in the buffer once the sum behind a frame is written.
-use Rattle.std.proofs.Common.{◌≡◌, ℕ, ◌+◌, ◌-◌, ◌<◌, ◌≤◌, List, [], ◌∷◌, ◌++◌, length, take, drop, Ok, Err, Result, sym, refl, ap, ◌∙◌, subst, append_assoc, arith, length-append, length-drop, length-take}
+use Rattle.std.proofs.Common.{◌≡◌, ℕ, ◌+◌, ◌-◌, ◌≤◌, List, ◌++◌, length, take, drop, Ok, Err, Result, sym, ap, ◌∙◌, subst, arith, length-drop, length-take}
 use borrow.Rule.Slice.PartMut.{mid_of, put_mid}
-use Rattle.std.proofs.lemmas.List.{take-append-drop, take-append-le, take_at, drop_at, take-take}
+use Rattle.std.proofs.lemmas.List.{take_at, drop_at, take-take}
 use Rattle.checksum.specs.declared.crc.SumRefused.{SumRefused}
 use Rattle.checksum.specs.Crc.{sum_bytes}
 use Rattle.checksum.specs.Refused.{SumWritten, body_of}

@@ -1,5 +1,5 @@
 -- Parcels, as they stand one after the other in the buffer. Assumes nothing.
-use Rattle.std.specs.Prelude.{◌≡◌, ℕ, ◌+◌, cond, List, [], ◌∷◌, ◌++◌, length, take, drop, ◌==◌}
+use Rattle.std.specs.Prelude.{ℕ, ◌+◌, cond, List, ◌∷◌, ◌++◌, length, take, drop, ◌==◌}
 use Rattle.std.specs.List.{flat_map}
 use Rattle.octets.specs.Writes.{octets}
 use Rattle.checksum.specs.Crc.{sum_bytes}

@@ -1,5 +1,5 @@
 -- What is taken out at a place. Assumes nothing.
-use Rattle.std.specs.Prelude.{◌≡◌, ℕ, ◌+◌, ◌^◌, ◌<◌, ◌≤◌, List, [], ◌∷◌, ◌++◌, length, take, drop, Some, None, Option}
+use Rattle.std.specs.Prelude.{◌≡◌, ℕ, ◌+◌, ◌^◌, ◌<◌, ◌≤◌, List, ◌++◌, length, take, drop, Some, None, Option}
 use Rattle.outbox.specs.declared.reading.Parcel.{Parcel}
 use Rattle.outbox.specs.Parcels.{parcel_bytes, port_at, port_number}
 

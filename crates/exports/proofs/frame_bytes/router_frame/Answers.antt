@@ -1,5 +1,5 @@
-use Rattle.std.proofs.Common.{◌≡◌, true, leb, sym, ap, ◌∙◌, subst, arith}
-use Rattle.std.proofs.lemmas.Bool.{le-leb, cond-true}
+use Rattle.std.proofs.Common.{◌≡◌, true, leb, sym, ap, subst, arith}
+use Rattle.std.proofs.lemmas.Bool.{le-leb}
 use Rattle.exports.specs.Verdicts.{again, verdict_of}
 use Rattle.exports.proofs.Agains.{wrote_again}
 use Rattle.exports.proofs.frame_bytes.router_frame.Goals as goal

@@ -1,6 +1,5 @@
 use Rattle.std.proofs.Common.{◌≡◌, Some, sym, ap, ◌∙◌, arith}
-use Rattle.packets.specs.Errors.{error_of}
-use Rattle.exports.specs.Verdicts.{left_by, length_by, trouble_of}
+use Rattle.exports.specs.Verdicts.{trouble_of}
 use Rattle.exports.proofs.Agains.{wrote_again, wrote_fitting}
 use Rattle.exports.proofs.packet_bytes.router_write_error.Goals as goal
 use Rattle.exports.proofs.packet_bytes.router_write_error.Goals.{in-11, in-3}

@@ -1,4 +1,4 @@
-use Rattle.std.proofs.Common.{◌≡◌, true, sym, ap, ◌∙◌, subst, arith}
+use Rattle.std.proofs.Common.{◌≡◌, true, sym, ap, subst, arith}
 use Rattle.frames.specs.Writing.{bytes_of_settings}
 use Rattle.exports.specs.Verdicts.{again, verdict_of}
 use Rattle.exports.proofs.Agains.{wrote_again}

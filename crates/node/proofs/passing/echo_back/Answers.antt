@@ -1,5 +1,4 @@
 use Rattle.std.proofs.Common.{ap, ◌∙◌}
-use Rattle.packets.specs.Packet.{echoed}
 use Rattle.node.specs.Passing.{framed}
 use Rattle.node.proofs.Framing.{replaced}
 use Rattle.node.proofs.passing.echo_back.Goals as goal

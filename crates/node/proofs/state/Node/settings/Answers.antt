@@ -1,6 +1,5 @@
-use Rattle.std.proofs.Common.{◌≡◌, [], Ok, sym, ap, ◌∙◌, subst, rules}
+use Rattle.std.proofs.Common.{[], sym, subst, rules}
 use Rattle.messages.specs.Values.{at}
-use Rattle.frames.specs.Reading.{settings_in, value_in}
 use Rattle.linkmodel.specs.Links.{relinks, rewired}
 use Rattle.station.specs.Events.{Did}
 use Rattle.station.specs.State.{station_of}

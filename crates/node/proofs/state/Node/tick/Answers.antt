@@ -1,5 +1,4 @@
-use Rattle.std.proofs.Common.{◌≡◌, cond, [], ◌++◌, sym, refl, ap, ◌∙◌}
-use Rattle.std.specs.List.{flat_map}
+use Rattle.std.proofs.Common.{sym, refl, ap, ◌∙◌}
 use Rattle.linkmodel.specs.Calls.{expired}
 use Rattle.linkmodel.specs.Station.{ticks}
 use Rattle.outbox.specs.Parcels.{contents}

@@ -1,8 +1,8 @@
-use Rattle.std.proofs.Common.{◌≡◌, ◌-◌, ◌<◌, ◌≤◌, [], ◌++◌, length, take, None, Ok, Err, sym, refl, ap, ◌∙◌, arith, rules}
+use Rattle.std.proofs.Common.{◌≡◌, ◌-◌, [], ◌++◌, length, take, Ok, Err, sym, refl, ap, ◌∙◌, arith}
 use Rattle.std.proofs.lemmas.Bool.{false≢true}
 use Rattle.checksum.specs.Crc.{SumFits}
 use Rattle.checksum.specs.Refused.{body_of}
-use Rattle.frames.specs.Reading.{a_hello, a_packet, frame_in, some_seen, some_words, told_by}
+use Rattle.frames.specs.Reading.{a_hello, a_packet, some_seen, some_words, told_by}
 use Rattle.frames.specs.declared.values.Frame.{Frame}
 use Rattle.hello.specs.State.{greeting_of}
 use Rattle.linkmodel.specs.Links.{Links}

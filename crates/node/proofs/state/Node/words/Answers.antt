@@ -1,5 +1,5 @@
-use Rattle.std.proofs.Common.{◌≡◌, ◌++◌, sym, refl, ap, ◌∙◌}
-use Rattle.linkmodel.specs.Station.{Station as Whole, teller}
+use Rattle.std.proofs.Common.{◌++◌, sym, refl, ap, ◌∙◌}
+use Rattle.linkmodel.specs.Station.{teller}
 use Rattle.outbox.specs.Parcels.{contents}
 use Rattle.station.specs.Hearing.{answer_on, outcomes_from}
 use Rattle.station.specs.State.{station_of}

@@ -1,4 +1,4 @@
-use Rattle.std.proofs.Common.{◌≡◌, ◌+◌, ◌-◌, ◌≤◌, length, ◌∙◌, arith, length-drop, length-take, rules}
+use Rattle.std.proofs.Common.{◌≡◌, ◌+◌, ◌-◌, length, ◌∙◌, arith, length-drop, length-take, rules}
 use borrow.Rule.Slice.PartMut.{mid_of}
 use Rattle.frames.specs.Writing.{bytes_of_line}
 use Rattle.outbox.proofs.InPlace.{in_place, line_small}
