@@ -1,6 +1,8 @@
 // Plays a net by a script, and prints after each line whether the net is at rest, and before that what became of a packet.
 //
 // A thin program over the proved boxes: it reads lines, moves what the boxes send along the roads, and prints.
+#![tactic(auto)]
+
 mod engine;
 mod play;
 

@@ -1,6 +1,8 @@
 // Reads the journals of boxes, and prints the map and the ways that a box had, or who lacks which word.
 //
 // A thin program over what is proved of journals: it reads files and prints.
+#![tactic(auto)]
+
 mod book;
 mod compare;
 mod draw;

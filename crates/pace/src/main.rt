@@ -1,6 +1,8 @@
 // Forwards packets through one running box, for measuring: pace [COUNT], a thousand if no count is given.
 //
 // It sets up box 1 of three between its neighbours, by bytes as on the wires, and prints how many of COUNT packets from box 0 went on to box 2.
+#![tactic(auto)]
+
 mod setting_up;
 
 use outbox::{Outbox, Port};
