@@ -103,7 +103,9 @@ def main():
             w = m.group(1)
             if w not in turned or (not kebab and "-" in w):
                 return w
-            before = text[: m.start()]
+            before, after = text[: m.start()], text[m.end() :]
+            if w in snaked and before.endswith(".") and after.startswith("."):
+                return w
             if p_is_code and w in snaked:
                 return w
             if ("-" in w or w in snaked) and before.endswith(".") and not re.search(r"(?:specs|proofs)(?:\.\w+)+\.$", before) and w not in projected:
