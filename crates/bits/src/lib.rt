@@ -36,7 +36,8 @@ pub fn without(x: u64, y: u64) -> u64
 }
 
 // Up to four places, rising: the first `count` of `items`, and 0 after them.
-#[derive(Clone, Copy)]
+// Kept: a count beside an array, since a box is copied and owns nothing on the heap, and neither a Vec nor an ArrayVec is Copy.
+#[derive(Clone, Copy, Debug, PartialEq, Eq, Default)]
 pub struct Picked {
     pub count: u8,
     pub items: [u8; 4],
@@ -50,8 +51,11 @@ pub fn lowest_four(x: u64) -> Picked
     let mut left = x;
     let mut count = 0u8;
     let mut items = [0u8; 4];
-    while left != 0 && count < 4 {
-        items[count as usize] = left.trailing_zeros() as u8;
+    for item in &mut items {
+        if left == 0 {
+            break;
+        }
+        *item = left.trailing_zeros() as u8;
         left &= left - 1;
         count += 1;
     }
@@ -91,9 +95,7 @@ mod tests {
             (u64::MAX << 60, 4, [60, 61, 62, 63]),
             (1 << 63, 1, [63, 0, 0, 0]),
         ] {
-            let picked = lowest_four(x);
-            assert_eq!(rt; picked.count, count);
-            assert_eq!(rt; picked.items, items);
+            assert_eq!(rt; lowest_four(x), Picked { count, items });
         }
     }
 }

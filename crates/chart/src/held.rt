@@ -8,7 +8,7 @@ use journal::Memory;
 use messages::WordId;
 
 // The numbers of the word that the box `by` has, with count 0 and tag 0 for none.
-#[derive(Clone, Copy)]
+#[derive(Clone, Copy, Debug, PartialEq, Eq)]
 pub struct Held {
     pub by: u8,
     pub word: WordId,
@@ -19,14 +19,11 @@ impl Held {
     pub fn of(memory: &Memory, about: u8) -> Held
         ensures { result ≡ held_in about (known_of memory.now) }
     {
-        let word = match memory.word(about) {
-            Some(word) => word.id,
-            None => WordId {
-                about,
-                count: 0,
-                tag: 0,
-            },
+        let none = WordId {
+            about,
+            ..WordId::default()
         };
+        let word = memory.word(about).map_or(none, |word| word.id);
         Held {
             by: memory.number(),
             word,
@@ -34,6 +31,7 @@ impl Held {
     }
 
     // Newer, or the same at a lower box.
+    // Kept: two words of different boxes compare by count and tag alone, and of the boxes that have one the lower goes first, so that no order derived from the fields is this one.
     fn goes_before(self, other: Held) -> bool
         ensures { result ≡ goes_before self other }
     {
@@ -53,11 +51,7 @@ impl Held {
 pub fn newest(first: Held, others: &[Held]) -> Held
     ensures { Newest first others.now result }
 {
-    let mut best = first;
-    for held in others {
-        if held.goes_before(best) {
-            best = *held;
-        }
-    }
-    best
+    others.iter().fold(first, |best, held| {
+        if held.goes_before(best) { *held } else { best }
+    })
 }

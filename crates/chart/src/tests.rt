@@ -12,8 +12,8 @@ const BOOK: &[u8] = b"\x05\0\0\0\x01\0\x04\0\
 #[test]
 fn over_the_lower_of_two(rt: HostRuntime) {
     let memory = journal::replay(BOOK, 9).memory;
-    assert!(rt; matches!(Way::to(&memory, 3), Some(Way { by: 1, cost: 3 })));
-    assert!(rt; Way::to(&memory, 0).is_none());
+    assert_eq!(rt; Way::to(&memory, 3), Some(Way { by: 1, cost: 3 }));
+    assert_eq!(rt; Way::to(&memory, 0), None);
     assert!(rt; is_on_a_least_way(&memory, 1, 3) && is_taken(&memory, 1, 3));
     assert!(rt; is_on_a_least_way(&memory, 2, 3) && !is_taken(&memory, 2, 3));
     assert!(rt; is_taken(&memory, 0, 1) && is_taken(&memory, 0, 2));
@@ -35,7 +35,7 @@ fn held_by(by: u8, count: u64, tag: u64) -> Held {
 fn who_lacks_which_word(rt: HostRuntime) {
     let others = [held_by(7, 4, 1), held_by(3, 4, 1), held_by(9, 4, 0)];
     let best = newest(held_by(1, 3, 8), &others);
-    assert!(rt; best.by == 3 && best.word.count == 4 && best.word.tag == 1);
+    assert_eq!(rt; best, held_by(3, 4, 1));
     assert!(rt; held_by(1, 3, 8).lacks(best) && held_by(9, 4, 0).lacks(best));
     assert!(rt; !held_by(7, 4, 1).lacks(best));
 }
@@ -43,7 +43,7 @@ fn who_lacks_which_word(rt: HostRuntime) {
 #[test]
 fn no_word_is_older_than_any(rt: HostRuntime) {
     let memory = journal::replay(BOOK, 2).memory;
-    assert!(rt; Held::of(&memory, 0).word.tag == 10);
+    assert_eq!(rt; Held::of(&memory, 0).word.tag, 10);
     assert!(rt; Held::of(&memory, 3).lacks(held_by(1, 1, 0)));
     assert!(rt; !Held::of(&memory, 3).lacks(Held::of(&memory, 2)));
 }

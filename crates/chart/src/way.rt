@@ -7,7 +7,7 @@ ghost use Rattle.chart.specs.Ways.{on_least_way, on_taken_way, way_to};
 use journal::Memory;
 
 // The next box on a least way, and what the way costs.
-#[derive(Clone, Copy)]
+#[derive(Clone, Copy, Debug, PartialEq, Eq)]
 pub struct Way {
     pub by: u8,
     pub cost: u32,
@@ -29,10 +29,7 @@ pub fn is_on_a_least_way(memory: &Memory, a: u8, e: u8) -> bool
     ensures is { result ≡ on_least_way a e (known_of memory.now) }
     ensures so { OnSomeWay }
 {
-    let Some(before) = memory.distance(a) else {
-        return false;
-    };
-    let Some(after) = memory.distance(e) else {
+    let (Some(before), Some(after)) = (memory.distance(a), memory.distance(e)) else {
         return false;
     };
     let cost = memory.road(a, e);

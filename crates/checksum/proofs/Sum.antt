@@ -1,10 +1,8 @@
 -- A frame by its last four bytes and those before.
 -- Assumes nothing.
-use Rattle.std.proofs.Common.{◌≡◌, ℕ, ◌+◌, ◌-◌, ◌<◌, ◌≤◌, Bool, List, ◌++◌, length, take, drop, Decides, sym, refl, ap, ◌∙◌, arith, length-append, take-append-drop}
-use borrow.Rule.Slice.PartMut.{put_mid}
+use Rattle.std.proofs.Common.{◌≡◌, ℕ, ◌+◌, ◌-◌, ◌<◌, Bool, List, ◌++◌, length, take, drop, Decides, sym, ap, ap₂, ◌∙◌, arith, length-append, take-append-drop}
 use Rattle.std.proofs.lemmas.Bool.Decides.{Decides-like}
-use Rattle.std.proofs.lemmas.List.{append-nil, drop_all, take_at, drop_at}
-use Rattle.std.proofs.lemmas.Slice.{put_mid-paste}
+use Rattle.std.proofs.lemmas.List.{take_at, drop_at}
 use Rattle.checksum.specs.Crc.{crc_of, low_first, sum_bytes, SumFits}
 use Rattle.checksum.specs.Refused.{body_of}
 
@@ -39,13 +37,6 @@ fits_decides f body sum s last r hb hs hc hl d =
     is = hl ∙ ap low_first (hc ∙ ap crc_of hb)
 
 -- what is left where the sum was written
-pub written : (f sum after : List ℕ) (s : ℕ) → 4 ≤ length f → s ≡ crc_of (body_of f) → sum ≡ low_first s → after ≡ sum
-    → put_mid (length f - 4) (length f - (length f - 4)) f after ≡ body_of f ++ sum_bytes (body_of f)
+pub written : (f front after : List ℕ) (s : ℕ) → front ≡ body_of f → s ≡ crc_of front → after ≡ low_first s → front ++ after ≡ body_of f ++ sum_bytes (body_of f)
 unfolding sum_bytes
-written f sum after s h hc hs ha =
-    put_mid-paste (length f - 4) (length f - (length f - 4)) f after (sum_bytes (body_of f)) 4 is (omega arith) refl
-    ∙ ap (λ (rest : List ℕ). body_of f ++ sum_bytes (body_of f) ++ rest) (drop_all (length f - 4 + 4) f (omega arith))
-    ∙ append-nil (body_of f ++ sum_bytes (body_of f))
-  where
-    is : after ≡ sum_bytes (body_of f)
-    is = ha ∙ hs ∙ ap low_first hc
+written f front after s e c h = ap₂ (λ x y. x ++ y) e (h ∙ ap low_first (c ∙ ap crc_of e))

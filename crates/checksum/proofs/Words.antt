@@ -1,7 +1,8 @@
 -- The words of what is left of a list: one more, a piece more, and at the end.
 -- Assumes nothing.
-use Rattle.std.proofs.Common.{◌≡◌, ℕ, zero, suc, ◌+◌, ◌*◌, ◌%◌, ◌<◌, ◌≤◌, List, [], ◌∷◌, length, get_or, take, drop, sym, refl, ap, ◌∙◌, subst, add_assoc, arith}
-use Rattle.std.proofs.lemmas.List.{drop_more, drop_all, drop-drop}
+use Rattle.std.proofs.Common.{◌≡◌, ℕ, zero, suc, ◌+◌, ◌*◌, ◌%◌, ◌<◌, ◌≤◌, min, List, [], ◌∷◌, ◌++◌, length, get_or, drop, sym, refl, ap, ◌∙◌, subst, add_assoc, add-one, arith, length-append}
+use Rattle.std.proofs.lemmas.List.{append-nil, drop_more, drop_all}
+use Rattle.std.specs.Simd.{first_chunks}
 use Rattle.checksum.proofs.Bytes.{bytes_from}
 use Rattle.checksum.proofs.Folds.{folds_same, leaves_on, leaves_more, sum_folds}
 use Rattle.checksum.specs.Internet.{ones_sum, total, Leaves}
@@ -22,37 +23,52 @@ total_one bytes i h =
 pub total_none : (bytes : List ℕ) (i : ℕ) → length bytes ≤ i → total (drop i bytes) ≡ 0
 total_none bytes i h = ap total (drop_all i bytes h)
 
--- cut at a whole word
-total_cut : (n : ℕ) (bytes : List ℕ) → n % 2 ≡ 0 → total bytes ≡ total (take n bytes) + total (drop n bytes)
-total_cut zero bytes h = omega arith
-total_cut (suc zero) bytes h = absurd (omega arith)
-total_cut (suc (suc n)) [] h = refl
-total_cut (suc (suc n)) (a ∷ []) h = omega arith
-total_cut (suc (suc n)) (a ∷ b ∷ bs) h = omega (arith, total_cut n bs (omega arith))
+-- the chunks of two are the words
+pub chunk_at : (m k i : ℕ) (xs : List ℕ) → k < m → m * 2 ≤ length xs → i ≡ 2 * k → get_or (first_chunks 2 m xs) k [] ≡ get_or xs i 0 ∷ get_or xs (i + 1) 0 ∷ []
+chunk_at zero k i xs h l e = absurd (omega arith)
+chunk_at (suc m) k i [] h l e = absurd (omega arith)
+chunk_at (suc m) k i (a ∷ []) h l e = absurd (omega arith)
+chunk_at (suc m) zero zero (a ∷ b ∷ xs) h l e = refl
+chunk_at (suc m) zero (suc i) (a ∷ b ∷ xs) h l e = absurd (omega arith)
+chunk_at (suc m) (suc k) zero (a ∷ b ∷ xs) h l e = absurd (omega arith)
+chunk_at (suc m) (suc k) (suc zero) (a ∷ b ∷ xs) h l e = absurd (omega arith)
+chunk_at (suc m) (suc k) (suc (suc i)) (a ∷ b ∷ xs) h l e = rw add-one (rw add-one at (chunk_at m k i xs (omega arith) (omega arith) (omega arith)))
 
--- s, with the words that are left from i on, is what all the words leave
-abbrev pub Left : List ℕ → ℕ → ℕ → Type 0
-Left bytes i s = Leaves (total bytes) (s + total (drop i bytes))
+-- bytes behind whole words
+total_join : (xs ys : List ℕ) → length xs % 2 ≡ 0 → total (xs ++ ys) ≡ total xs + total ys
+total_join [] ys h = omega arith
+total_join (a ∷ []) ys h = absurd (omega arith)
+total_join (a ∷ b ∷ xs) ys h = omega (arith, total_join xs ys (omega arith))
 
--- a piece of n bytes more
-pub left_piece : (bytes : List ℕ) (i n s w t : ℕ) → n % 2 ≡ 0 → w ≡ total (take n (drop i bytes)) → Leaves (s + w) t
-    → Left bytes i s → Left bytes (i + n) t
-left_piece bytes i n s w t h e f l =
-    let c : total (drop i bytes) ≡ w + total (drop (i + n) bytes)
-    = total_cut n (drop i bytes) h
-    ∙ ap (λ (x : ℕ). x + total (drop n (drop i bytes))) (sym e)
-    ∙ ap (λ (xs : List ℕ). w + total xs) (drop-drop n i bytes) in
-    let p : s + total (drop i bytes) ≡ s + w + total (drop (i + n) bytes) = omega arith in
-    leaves_on (total bytes) (s + total (drop i bytes)) (t + total (drop (i + n) bytes)) l
-    (subst (λ (x : ℕ). Leaves x (t + total (drop (i + n) bytes))) (sym p) (leaves_more (s + w) t (total (drop (i + n) bytes)) f))
+total_nothing : (xs : List ℕ) → length xs ≡ 0 → total xs ≡ 0
+total_nothing [] h = refl
+total_nothing (x ∷ xs) h = absurd (omega arith)
 
--- at the end: w is what is left
-pub left_end : (bytes : List ℕ) (i s w t : ℕ) → ((k : ℕ) → get_or bytes k 0 < 256) → w ≡ total (drop i bytes) → Left bytes i s
-    → Leaves (s + w) t → t < 65536 → t ≡ ones_sum bytes
-left_end bytes i s w t hb e l f h =
+-- a piece in front of the rest: of whole words, or all that there is
+total_piece : (rest piece left : List ℕ) (size : ℕ) → size ≡ 65536 → rest ≡ piece ++ left → length piece ≡ min size (length rest)
+    → total rest ≡ total piece + total left
+total_piece rest piece [] size f e h = ap total (e ∙ append-nil piece) ∙ omega arith
+total_piece rest piece (x ∷ left) size f e h =
+    let l : length rest ≡ length piece + (1 + length left) = ap length e ∙ length-append piece (x ∷ left) ∙ omega arith in
+    ap total e ∙ total_join piece (x ∷ left) (omega arith)
+
+-- n words in all: what is left of them, with the sum so far, when a piece more is added and folded
+pub left_piece : (n : ℕ) (rest piece left : List ℕ) (size s w t : ℕ) → size ≡ 65536 → rest ≡ piece ++ left → length piece ≡ min size (length rest) → w ≡ total piece
+    → Leaves (s + w) t → Leaves n (s + total rest) → Leaves n (t + total left)
+left_piece n rest piece left size s w t z a h e f l =
+    let c : total rest ≡ w + total left = total_piece rest piece left size z a h ∙ ap (λ (x : ℕ). x + total left) (sym e) in
+    let p : s + total rest ≡ s + w + total left = omega arith in
+    leaves_on n (s + total rest) (t + total left) l
+    (subst (λ (x : ℕ). Leaves x (t + total left)) (sym p) (leaves_more (s + w) t (total left) f))
+
+-- at the end nothing is left
+pub left_end : (bytes rest : List ℕ) (s t : ℕ) → ((k : ℕ) → get_or bytes k 0 < 256) → length rest ≡ 0 → Leaves (total bytes) (s + total rest)
+    → Leaves s t → t < 65536 → t ≡ ones_sum bytes
+left_end bytes rest s t hb e l f h =
+    let z : s + total rest ≡ s = omega (arith, total_nothing rest e) in
     folds_same (total bytes) t (ones_sum bytes)
     (record {
-      leaves = leaves_on (total bytes) (s + w) t (subst (λ (n : ℕ). Leaves (total bytes) (s + n)) (sym e) l) f;
+      leaves = leaves_on (total bytes) s t (subst (λ (n : ℕ). Leaves (total bytes) n) z l) f;
       small = omega arith;
     })
     (sum_folds bytes (bytes_from bytes hb))

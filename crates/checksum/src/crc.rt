@@ -5,17 +5,19 @@ ghost use Rattle.checksum.specs.Known.{KnownSums};
 ghost use Rattle.checksum.specs.Refused.{SumWritten, refusal_number};
 
 // Why a sum was not written.
-#[derive(Clone, Copy)]
+#[derive(Clone, Copy, Debug, PartialEq, Eq)]
 pub enum SumRefused {
     TooShort,
 }
 
 // The number that stands for a refusal.
-pub fn refusal_number(why: SumRefused) -> u8
-    ensures { result ≡ refusal_number why }
-{
-    match why {
-        SumRefused::TooShort => 1,
+impl From<SumRefused> for u8 {
+    ghost from_gives = { λ why n. n ≡ refusal_number why };
+
+    fn from(why: SumRefused) -> u8 {
+        match why {
+            SumRefused::TooShort => 1,
+        }
     }
 }
 
@@ -95,7 +97,7 @@ pub fn write_sum(frame: &mut [u8]) -> Result<(), SumRefused>
         return Err(SumRefused::TooShort);
     }
     let n = frame.len() - 4;
-    let sum = crc(&frame[..n]).to_le_bytes();
-    frame[n..].copy_from_slice(&sum);
+    let (body, sum) = frame.split_at_mut(n);
+    sum.copy_from_slice(&crc(body).to_le_bytes());
     Ok(())
 }

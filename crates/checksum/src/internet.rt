@@ -30,13 +30,12 @@ fn plain_sum(piece: &[u8]) -> u32
     ensures small { result < 2 ^ 31 + 2 ^ 16 }
 {
     let mut sum: u32 = 0;
-    let mut i: usize = 0;
-    while piece.len() - i >= 2 {
-        sum += u32::from(u16::from_be_bytes([piece[i], piece[i + 1]]));
-        i += 2;
+    let (words, odd) = piece.as_chunks::<2>();
+    for word in words {
+        sum += u32::from(u16::from_be_bytes(*word));
     }
-    if i < piece.len() {
-        return sum + u32::from(piece[i]) * 256;
+    if let Some(high) = odd.first() {
+        sum += u32::from(*high) * 256;
     }
     sum
 }
@@ -46,12 +45,10 @@ fn ones_sum(bytes: &[u8]) -> u16
     ensures { result ≡ ones_sum bytes.now }
 {
     let mut sum: u32 = 0;
-    let mut i: usize = 0;
-    while bytes.len() - i > 65536 {
-        sum = fold(sum + plain_sum(&bytes[i..i + 65536]));
-        i += 65536;
+    for piece in bytes.chunks(65536) {
+        sum = fold(sum + plain_sum(piece));
     }
-    folded(sum + plain_sum(&bytes[i..]))
+    folded(sum)
 }
 
 // The checksum of the bytes. A header is summed with 0 in its checksum field.

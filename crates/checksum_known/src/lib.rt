@@ -34,7 +34,7 @@ mod tests {
         match write_sum(&mut [1, 2, 3]) {
             Ok(()) => Err(Fail::new("written")),
             Err(why) => {
-                assert!(rt; refusal_number(why) == 1);
+                assert!(rt; u8::from(why) == 1);
                 Ok(())
             },
         }

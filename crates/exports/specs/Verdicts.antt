@@ -2,8 +2,9 @@
 -- Assumes nothing.
 use Rattle.std.specs.Prelude.{ℕ, ◌+◌, ◌-◌, ◌≤◌, Bool, true, cond, ◌&&◌, List, length, Some, None, Ok, Err, Option, Result, ◌==◌, nat_le}
 use Rattle.octets.specs.declared.Fault.{Fault}
+use Rattle.octets.specs.declared.Fault.TheVariants.{Range}
 use Rattle.octets.specs.Writes.{put}
-use Rattle.frames.specs.Faults.{fault_number}
+use Rattle.octets.specs.Faults.{fault_number}
 use Rattle.frames.specs.Reading.{Told, a_hello, some_words, some_seen, a_packet, frame_in, line_in, settings_in, value_in}
 use Rattle.frames.specs.declared.values.Line.{Line}
 use Rattle.packets.specs.declared.values.Errand.{Errand}
@@ -19,9 +20,16 @@ abbrev pub verdict_of : {A : Type 0} → Result A Fault → ℕ
 verdict_of (Ok _) = 0
 verdict_of (Err e) = fault_number e
 
--- more than 64 boxes are out of range
+-- what a frame is read as; more than 64 boxes are out of range
+abbrev pub frame_at : ℕ → List ℕ → Result Told Fault
+frame_at n bytes = cond (nat_le n 64) (frame_in n bytes) (Err Range)
+
+-- and the line at the front of these bytes
+abbrev pub line_at : ℕ → List ℕ → Result (Line × List ℕ) Fault
+line_at n bytes = cond (nat_le n 64) (line_in n bytes) (Err Range)
+
 abbrev pub frame_verdict : ℕ → List ℕ → ℕ
-frame_verdict n bytes = cond (nat_le n 64) (verdict_of (frame_in n bytes)) 2
+frame_verdict n bytes = verdict_of (frame_at n bytes)
 
 abbrev pub settings_verdict : List ℕ → ℕ
 settings_verdict bytes = verdict_of (value_in (settings_in bytes))
@@ -32,18 +40,11 @@ line_length bytes (Ok t) = length bytes - length t.1
 line_length bytes (Err e) = 256 + fault_number e
 
 abbrev pub line_answer : ℕ → List ℕ → ℕ
-line_answer n bytes = cond (nat_le n 64) (line_length bytes (line_in n bytes)) (256 + 2)
+line_answer n bytes = line_length bytes (line_at n bytes)
 
 -- a buffer with these bytes in its front, if they are to be written and fit; else as it was
 abbrev pub again : Bool → List ℕ → List ℕ → List ℕ
 again wanted bytes before = cond (wanted && nat_le (length bytes) (length before)) (put 0 bytes before) before
-
--- at most four of a kind
-abbrev pub FewIn : Told → Type 0
-FewIn (a_hello h) = Unit {0}
-FewIn (some_words w) = w.count ≤ 4
-FewIn (some_seen s) = s.count ≤ 4
-FewIn (a_packet bytes) = Unit {0}
 
 -- 0 to hand out, 1 to answer an echo, 2 and the box to send on to, or 256 and the number of the refusal
 abbrev pub errand_number : Result Errand Refusal → ℕ

@@ -53,8 +53,6 @@ pub extern "C" fn router_least_ways<'x>(
         next,
     ) {
         Ok(_) => 0,
-        Err(ways::Refusal::Size) => 1,
-        Err(ways::Refusal::Place) => 2,
-        Err(ways::Refusal::Length) => 3,
+        Err(refusal) => u8::from(refusal),
     }
 }

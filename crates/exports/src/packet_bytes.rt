@@ -5,7 +5,7 @@ ghost use Rattle.packets.specs.Errors.{is_error};
 ghost use Rattle.packets.specs.Packet.{echoed, handed_on};
 ghost use Rattle.std.specs.Prelude.{◌≡◌};
 
-use packets::{Errand, Trouble, errand, refusal_number, write_error};
+use packets::{Errand, Trouble, errand, write_error};
 
 // What box `me` of `n` does with the packet: 0 to hand it out, 1 to answer its echo, 2 and the box to send it on to, or 256 and the number of the refusal.
 #[unsafe(no_mangle)]
@@ -16,7 +16,7 @@ pub extern "C" fn router_errand(n: u8, me: u8, packet: &[u8]) -> u16
         Ok(Errand::HandOut) => 0,
         Ok(Errand::Echo) => 1,
         Ok(Errand::Onward(to)) => 2 + u16::from(to),
-        Err(refusal) => 256 + u16::from(refusal_number(refusal)),
+        Err(refusal) => 256 + u16::from(u8::from(refusal)),
     }
 }
 

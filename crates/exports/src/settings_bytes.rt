@@ -2,7 +2,7 @@
 ghost use Rattle.exports.specs.Verdicts.{again, settings_verdict};
 ghost use Rattle.std.specs.Prelude.{◌≡◌, ◌==◌};
 
-use frames::{fault_number, read_settings, write_settings};
+use frames::{read_settings, write_settings};
 
 // Reads settings and writes them again: 0, or the number of the fault.
 #[unsafe(no_mangle)]
@@ -15,6 +15,6 @@ pub extern "C" fn router_settings(bytes: &[u8], out: &mut [u8]) -> u8
             write_settings(settings, out);
             0
         }
-        Err(fault) => fault_number(fault),
+        Err(fault) => u8::from(fault),
     }
 }

@@ -1,54 +1,126 @@
 // The net that is played: boxes, the wires between them, and what is on the wires.
 use messages::{Hello, Seens, Settings, Words};
-use net::Ending;
+use net::{Ending, Route};
 use router::Router;
+use script::{Command, Fault};
 use station::Station;
 use std::alloc::{AllocError, AllocFailed, Global};
+use std::{fmt, io};
 
-// Why a line isn't done: it is refused, with nothing changed, or there is no memory for it.
+// Why a line isn't done: it is refused, with nothing changed, or there is no memory for it, or it cannot be answered.
 #[derive(Drop)]
 pub(crate) enum Trouble {
-    Line,
-    Memory,
+    Refused(Fault),
+    Failed(io::Error),
+}
+
+impl From<Fault> for Trouble {
+    fn from(fault: Fault) -> Trouble {
+        Trouble::Refused(fault)
+    }
+}
+
+impl From<io::Error> for Trouble {
+    fn from(e: io::Error) -> Trouble {
+        Trouble::Failed(e)
+    }
 }
 
 impl From<AllocError> for Trouble {
-    fn from(_e: AllocError) -> Trouble {
-        Trouble::Memory
+    fn from(e: AllocError) -> Trouble {
+        Trouble::Failed(e.into())
     }
 }
 
 impl<T: Drop> From<AllocFailed<T>> for Trouble {
     fn from(_e: AllocFailed<T>) -> Trouble {
-        Trouble::Memory
+        Trouble::Failed(AllocError.into())
     }
 }
 
-// What became of a packet: its way, in so many steps and at this cost; where it was refused and by which number; or between whom it was lost.
+// What became of a packet: it went as far as its boxes handed it on, or it was lost between two.
+#[derive(Clone, Copy, Debug, PartialEq, Eq)]
 pub(crate) enum Fate {
-    Way([u8; 64], u8, u32),
-    Refused(u8, u8),
+    Went(Route),
     Lost(u8, u8),
 }
 
+impl fmt::Display for Fate {
+    fn fmt<W: fmt::Write>(&self, f: &mut fmt::Formatter<W>) -> fmt::Result {
+        match self {
+            Fate::Went(route) => match route.ending {
+                Ending::Arrived => {
+                    write!(f, "way")?;
+                    for at in route.boxes() {
+                        write!(f, " {at}")?;
+                    }
+                    let cost = route.cost;
+                    write!(f, " cost {cost}")
+                }
+                Ending::Worn => {
+                    let at = route.boxes().last().copied().unwrap_or(0);
+                    write!(f, "refused at {at}: 7")
+                }
+                Ending::NoWay(at) => write!(f, "refused at {at}: 8"),
+                Ending::Closed(at) => write!(f, "refused at {at}: 9"),
+            },
+            Fate::Lost(from, to) => write!(f, "lost between {from} and {to}"),
+        }
+    }
+}
+
 // One end of a wire: a box, and which of its wires it is.
-#[derive(Clone, Copy)]
+#[derive(Clone, Copy, Debug, PartialEq, Eq)]
 struct End {
     at: u8,
     wire: u8,
 }
 
-// A wire between two boxes, and how many of the next things it loses in each direction.
-#[derive(Clone, Copy)]
+// An end of a cable, and how many of the next things that go out there are lost.
+#[derive(Clone, Copy, Debug, PartialEq, Eq)]
+struct Side {
+    end: End,
+    losing: u32,
+}
+
+// A wire between two boxes.
+#[derive(Clone, Copy, Debug, PartialEq, Eq)]
 struct Cable {
-    first: End,
-    second: End,
-    losing_there: u32,
-    losing_back: u32,
+    one: Side,
+    other: Side,
+}
+
+impl Cable {
+    fn has(&self, end: End) -> bool {
+        self.one.end == end || self.other.end == end
+    }
+
+    fn joins(&self, a: u8, e: u8) -> bool {
+        let (one, other) = (self.one.end.at, self.other.end.at);
+        (one == a && other == e) || (one == e && other == a)
+    }
+
+    // Its end at a box, and the one across.
+    fn ends_from(&self, a: u8) -> (End, End) {
+        if self.one.end.at == a {
+            (self.one.end, self.other.end)
+        } else {
+            (self.other.end, self.one.end)
+        }
+    }
+
+    // Its side at a box.
+    fn side_at(&mut self, a: u8) -> &mut Side {
+        if self.one.end.at == a {
+            &mut self.one
+        } else {
+            &mut self.other
+        }
+    }
 }
 
 // What goes over a wire.
-#[derive(Clone, Copy)]
+#[derive(Clone, Copy, Debug, PartialEq, Eq)]
 enum Frame {
     Hello(Hello),
     Words(Words),
@@ -56,7 +128,7 @@ enum Frame {
 }
 
 // A frame on its way, with the end at which it arrives.
-#[derive(Clone, Copy)]
+#[derive(Clone, Copy, Debug, PartialEq, Eq)]
 struct Letter {
     to: End,
     frame: Frame,
@@ -85,7 +157,7 @@ impl Net {
         for me in 0..count {
             let drawn = net.draw();
             let Ok(station) = Station::new(count, me, drawn) else {
-                return Err(Trouble::Line);
+                return Err(Trouble::Refused(Fault::Form));
             };
             net.boxes.push(station)?;
         }
@@ -112,8 +184,8 @@ impl Net {
         self.drawn
     }
 
-    fn station(&self, a: u8) -> Option<Station> {
-        self.boxes.get(a as usize).copied()
+    fn station(&self, a: u8) -> Result<Station, Fault> {
+        self.boxes.get(a as usize).copied().ok_or(Fault::Form)
     }
 
     fn put(&mut self, a: u8, station: Station) {
@@ -124,43 +196,26 @@ impl Net {
 
     // The wire between two boxes, if there is one: which of the cables it is.
     fn cable(&self, a: u8, e: u8) -> Option<usize> {
-        for (k, cable) in self.cables.iter().enumerate() {
-            let (one, other) = (cable.first.at, cable.second.at);
-            if (one == a && other == e) || (one == e && other == a) {
-                return Some(k);
-            }
-        }
-        None
+        self.cables.iter().position(|cable| cable.joins(a, e))
     }
 
     // The lowest wire of a box that is joined to nothing.
-    fn free_wire(&self, a: u8) -> Option<u8> {
-        for w in 0u8..8 {
-            let mut free = true;
-            for cable in self.cables.iter() {
-                if cable.first.at == a && cable.first.wire == w {
-                    free = false;
-                }
-                if cable.second.at == a && cable.second.wire == w {
-                    free = false;
-                }
-            }
-            if free {
-                return Some(w);
-            }
-        }
-        None
+    fn free_end(&self, a: u8) -> Result<End, Fault> {
+        (0u8..8)
+            .map(|wire| End { at: a, wire })
+            .find(|end| !self.cables.iter().any(|cable| cable.has(*end)))
+            .ok_or(Fault::Form)
     }
 
     // The end of a box's wire changes its cost.
     fn set_cost(&mut self, end: End, cost: u16) {
-        let Some(station) = self.station(end.at) else {
+        let Ok(station) = self.station(end.at) else {
             return;
         };
         let links = station.links();
-        let mut costs = [0u16; 8];
-        for w in 0u8..8 {
-            costs[w as usize] = if w == end.wire { cost } else { links.cost(w) };
+        let mut costs: [u16; 8] = std::array::from_fn(|w| links.cost(w as u8));
+        if let Some(place) = costs.get_mut(usize::from(end.wire)) {
+            *place = cost;
         }
         let settings = Settings {
             boxes: links.boxes(),
@@ -173,79 +228,56 @@ impl Net {
     }
 
     // A wire is laid at the lowest free number of each end, or its costs change; 0 0 takes it away, and what is on it is lost.
-    pub(crate) fn road(&mut self, a: u8, e: u8, cost: u16, back: u16) -> Result<(), Trouble> {
-        if self.station(a).is_none() || self.station(e).is_none() {
-            return Err(Trouble::Line);
-        }
+    fn road(&mut self, a: u8, e: u8, cost: u16, back: u16) -> Result<(), Trouble> {
+        self.station(a)?;
+        self.station(e)?;
         match self.cable(a, e) {
             Some(k) => self.change(k, a, cost, back),
-            None => {
-                if cost > 0 {
-                    self.lay(a, e, cost, back)?;
-                }
-                Ok(())
-            }
+            None if cost > 0 => self.lay(a, e, cost, back)?,
+            None => {}
         }
+        Ok(())
     }
 
     fn lay(&mut self, a: u8, e: u8, cost: u16, back: u16) -> Result<(), Trouble> {
-        let (Some(one), Some(other)) = (self.free_wire(a), self.free_wire(e)) else {
-            return Err(Trouble::Line);
-        };
-        let first = End { at: a, wire: one };
-        let second = End { at: e, wire: other };
+        let here = self.free_end(a)?;
+        let there = self.free_end(e)?;
         self.cables.push(Cable {
-            first,
-            second,
-            losing_there: 0,
-            losing_back: 0,
+            one: Side {
+                end: here,
+                losing: 0,
+            },
+            other: Side {
+                end: there,
+                losing: 0,
+            },
         })?;
-        self.set_cost(first, cost);
-        self.set_cost(second, back);
+        self.set_cost(here, cost);
+        self.set_cost(there, back);
         Ok(())
     }
 
-    fn change(&mut self, k: usize, a: u8, cost: u16, back: u16) -> Result<(), Trouble> {
+    fn change(&mut self, k: usize, a: u8, cost: u16, back: u16) {
         let Some(cable) = self.cables.get(k).copied() else {
-            return Err(Trouble::Line);
+            return;
         };
-        let (here, there) = if cable.first.at == a {
-            (cable.first, cable.second)
-        } else {
-            (cable.second, cable.first)
-        };
+        let (here, there) = cable.ends_from(a);
         self.set_cost(here, cost);
         self.set_cost(there, back);
         if cost == 0 {
-            self.take_away(cable)?;
+            self.take_away(cable);
         }
-        Ok(())
     }
 
     // A wire is gone, and everything on it.
-    fn take_away(&mut self, gone: Cable) -> Result<(), Trouble> {
-        let mut cables = Vec::new(self.heap);
-        for cable in self.cables.iter() {
-            if cable.first.at != gone.first.at || cable.first.wire != gone.first.wire {
-                cables.push(*cable)?;
-            }
-        }
-        let mut flight = Vec::new(self.heap);
-        for letter in self.flight.iter() {
-            if !same_end(letter.to, gone.first) && !same_end(letter.to, gone.second) {
-                flight.push(*letter)?;
-            }
-        }
-        self.cables = cables;
-        self.flight = flight;
-        Ok(())
+    fn take_away(&mut self, gone: Cable) {
+        self.cables.retain(|cable| cable.one.end != gone.one.end);
+        self.flight.retain(|letter| !gone.has(letter.to));
     }
 
     // A box loses all that it knew, and draws a new number.
-    pub(crate) fn fall(&mut self, a: u8) -> Result<(), Trouble> {
-        let Some(station) = self.station(a) else {
-            return Err(Trouble::Line);
-        };
+    fn fall(&mut self, a: u8) -> Result<(), Trouble> {
+        let station = self.station(a)?;
         let drawn = self.draw();
         if let Ok(next) = station.falls(drawn) {
             self.put(a, next);
@@ -254,16 +286,11 @@ impl Net {
     }
 
     // The next things from a to e are lost, besides those that are lost already.
-    pub(crate) fn lose(&mut self, a: u8, e: u8, count: u32) -> Result<(), Trouble> {
-        let Some(k) = self.cable(a, e) else {
-            return Err(Trouble::Line);
-        };
+    fn lose(&mut self, a: u8, e: u8, count: u32) -> Result<(), Trouble> {
+        let k = self.cable(a, e).ok_or(Fault::Form)?;
         if let Some(cable) = self.cables.get_mut(k) {
-            if cable.first.at == a {
-                cable.losing_there = cable.losing_there.saturating_add(count);
-            } else {
-                cable.losing_back = cable.losing_back.saturating_add(count);
-            }
+            let side = cable.side_at(a);
+            side.losing = side.losing.saturating_add(count);
         }
         Ok(())
     }
@@ -273,21 +300,14 @@ impl Net {
         let Some(cable) = self.cables.get_mut(k) else {
             return false;
         };
-        let there = cable.first.at == a;
-        let losing = if there {
-            cable.losing_there
-        } else {
-            cable.losing_back
-        };
-        if losing == 0 {
-            return true;
+        let side = cable.side_at(a);
+        match side.losing.checked_sub(1) {
+            Some(left) => {
+                side.losing = left;
+                false
+            }
+            None => true,
         }
-        if there {
-            cable.losing_there = losing - 1;
-        } else {
-            cable.losing_back = losing - 1;
-        }
-        false
     }
 
     // A box sends a frame on one of its wires; unless the wire loses it, it arrives at the other end.
@@ -297,36 +317,27 @@ impl Net {
         frame: Frame,
         out: &mut Vec<Letter>,
     ) -> Result<(), Trouble> {
-        for k in 0..self.cables.len() {
-            let Some(cable) = self.cables.get(k).copied() else {
-                return Ok(());
-            };
-            let other = if same_end(cable.first, from) {
-                cable.second
-            } else if same_end(cable.second, from) {
-                cable.first
-            } else {
-                continue;
-            };
-            if self.gets_through(k, from.at) {
-                out.push(Letter { to: other, frame })?;
-            }
+        let Some(k) = self.cables.iter().position(|cable| cable.has(from)) else {
             return Ok(());
+        };
+        let Some(cable) = self.cables.get(k).copied() else {
+            return Ok(());
+        };
+        if self.gets_through(k, from.at) {
+            let (_, to) = cable.ends_from(from.at);
+            out.push(Letter { to, frame })?;
         }
         Ok(())
     }
 
     // All boxes tick, in rising order; then what was sent in the last tick arrives, in the order in which it was sent.
-    pub(crate) fn ticks(&mut self, count: u32) -> Result<(), Trouble> {
+    fn ticks(&mut self, count: u32) -> Result<(), Trouble> {
         for _t in 0..count {
             let mut out = Vec::new(self.heap);
-            for a in 0..self.boxes.len() {
-                if a < 64 {
-                    self.tick_box(a as u8, &mut out)?;
-                }
+            for a in 0u8..64 {
+                self.tick_box(a, &mut out)?;
             }
-            let mut arriving = Vec::new(self.heap);
-            std::mem::swap(&mut arriving, &mut self.flight);
+            let arriving = std::mem::replace(&mut self.flight, Vec::new(self.heap));
             for letter in arriving.iter() {
                 self.arrive(*letter, &mut out)?;
             }
@@ -337,7 +348,7 @@ impl Net {
 
     // One box ticks: its hellos go out, and then its words, on rising wires.
     fn tick_box(&mut self, a: u8, out: &mut Vec<Letter>) -> Result<(), Trouble> {
-        let Some(station) = self.station(a) else {
+        let Ok(station) = self.station(a) else {
             return Ok(());
         };
         let tag = self.draw();
@@ -345,13 +356,12 @@ impl Net {
             return Ok(());
         };
         self.put(a, ticked.station);
-        for wire in 0u8..8 {
-            if let Some(hello) = ticked.hellos[wire as usize] {
+        for (wire, hello) in (0u8..8).zip(ticked.hellos) {
+            if let Some(hello) = hello {
                 self.send_frame(End { at: a, wire }, Frame::Hello(hello), out)?;
             }
         }
-        for wire in 0u8..8 {
-            let words = ticked.words[wire as usize];
+        for (wire, words) in (0u8..8).zip(ticked.words) {
             if words.count > 0 {
                 self.send_frame(End { at: a, wire }, Frame::Words(words), out)?;
             }
@@ -362,24 +372,18 @@ impl Net {
     // A frame arrives; one that the box refuses changes nothing.
     fn arrive(&mut self, letter: Letter, out: &mut Vec<Letter>) -> Result<(), Trouble> {
         let End { at, wire } = letter.to;
-        let Some(station) = self.station(at) else {
+        let Ok(station) = self.station(at) else {
             return Ok(());
         };
-        match letter.frame {
-            Frame::Hello(hello) => {
-                if let Ok(next) = station.hears_hello(wire, hello) {
-                    self.put(at, next);
-                }
-                Ok(())
-            }
-            Frame::Seens(seens) => {
-                if let Ok(next) = station.hears_seens(wire, seens) {
-                    self.put(at, next);
-                }
-                Ok(())
-            }
-            Frame::Words(words) => self.arrive_words(End { at, wire }, station, words, out),
+        let heard = match letter.frame {
+            Frame::Hello(hello) => station.hears_hello(wire, hello),
+            Frame::Seens(seens) => station.hears_seens(wire, seens),
+            Frame::Words(words) => return self.arrive_words(letter.to, station, words, out),
+        };
+        if let Ok(next) = heard {
+            self.put(at, next);
         }
+        Ok(())
     }
 
     // A packet of words arrives, and is answered by seens and by newer words.
@@ -409,33 +413,33 @@ impl Net {
     }
 
     // A packet goes its whole way at this moment, each box handing it on by itself.
-    pub(crate) fn send(&mut self, a: u8, e: u8) -> Result<Fate, Trouble> {
-        if self.station(a).is_none() || self.station(e).is_none() {
-            return Err(Trouble::Line);
-        }
+    fn send(&mut self, a: u8, e: u8) -> Result<Fate, Trouble> {
+        self.station(a)?;
+        self.station(e)?;
         let routers = self.routers()?;
         let route = net::follow(routers.as_slice(), a, e);
-        let mut at = a;
-        for k in 1u8..64 {
-            if k <= route.steps {
-                let next = route.way[k as usize];
-                if let Some(cable) = self.cable(at, next) {
-                    if !self.gets_through(cable, at) {
+        for road in route.boxes().windows(2) {
+            if let [at, next] = *road {
+                if let Some(k) = self.cable(at, next) {
+                    if !self.gets_through(k, at) {
                         return Ok(Fate::Lost(at, next));
                     }
                 }
-                at = next;
             }
         }
-        Ok(match route.ending {
-            Ending::Arrived => Fate::Way(route.way, route.steps, route.cost),
-            Ending::NoWay(at) => Fate::Refused(at, 8),
-            Ending::Closed(at) => Fate::Refused(at, 9),
-            Ending::Worn => Fate::Refused(at, 7),
-        })
+        Ok(Fate::Went(route))
     }
-}
 
-fn same_end(x: End, y: End) -> bool {
-    x.at == y.at && x.wire == y.wire
+    // A line of a net that is played already, and what became of the packet that it sends, if it does.
+    pub(crate) fn obey(&mut self, command: Command) -> Result<Option<Fate>, Trouble> {
+        match command {
+            Command::Boxes(_) => return Err(Trouble::Refused(Fault::Form)),
+            Command::Road(a, e, cost, back) => self.road(a, e, cost, back)?,
+            Command::Fall(a) => self.fall(a)?,
+            Command::Lose(a, e, count) => self.lose(a, e, count)?,
+            Command::Tick(count) => self.ticks(count)?,
+            Command::Send(a, e) => return Ok(Some(self.send(a, e)?)),
+        }
+        Ok(None)
+    }
 }

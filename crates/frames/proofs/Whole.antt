@@ -15,8 +15,8 @@ use Rattle.messages.specs.declared.values.Hello.{Hello}
 use Rattle.messages.specs.declared.values.Settings.{Settings}
 use Rattle.messages.specs.declared.values.Word.{Word}
 use Rattle.messages.specs.declared.values.WordId.{WordId}
-use Rattle.messages.specs.declared.values.Seens.{Seens}
-use Rattle.messages.specs.declared.values.Words.{Words}
+use Rattle.messages.specs.Packets.{Seens}
+use Rattle.messages.specs.Packets.{Words}
 use Rattle.wordframes.specs.Ranges.{SeensInRange, WordsInRange, IdInRange, WordInRange}
 use Rattle.frames.specs.Ranges.{HelloInRange, SettingsInRange, InRange, bytes_of_frame}
 use Rattle.wordframes.specs.Reading.{blank_id, blank_word, id_in, low_count, low_word, seens_in, word_in, words_in}

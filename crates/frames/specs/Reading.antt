@@ -12,8 +12,8 @@ use Rattle.frames.specs.declared.values.Entry.TheVariants.{Began, Said, Taken, R
 use Rattle.frames.specs.declared.values.Frame.{Frame}
 use Rattle.frames.specs.declared.values.Frame.TheVariants.{Hello as OfHello, Words as OfWords, Seen as OfSeen, Packet as OfPacket}
 use Rattle.frames.specs.declared.values.Line.{Line}
-use Rattle.messages.specs.declared.values.Seens.{Seens}
-use Rattle.messages.specs.declared.values.Words.{Words}
+use Rattle.messages.specs.Packets.{Seens}
+use Rattle.messages.specs.Packets.{Words}
 use Rattle.wordframes.specs.Reading.{low_word, seens_in, word_in, words_in}
 
 -- the value alone

@@ -1,11 +1,11 @@
 // What the bytes on a wire are: the kind, and what follows it.
 ghost use Rattle.std.specs.Prelude.{◌≡◌, ℕ, ◌≤◌, ◌∷◌};
-ghost use Rattle.frames.specs.Ranges.{FrameAgain, OnlyFrame};
-ghost use Rattle.frames.specs.Reading.{a_packet, answer_by, frame_in, some_seen, some_words};
+ghost use Rattle.frames.specs.Ranges.{FrameAgain, OnlyFrame, bytes_of_frame};
+ghost use Rattle.frames.specs.Reading.{a_packet, answer_by, frame_in, some_seen, some_words, told_by};
 ghost use Rattle.octets.specs.Writes.{Wrote};
 ghost use Rattle.wordframes.specs.Writing.{bytes_of_seens, bytes_of_words};
 
-use crate::hello_bytes::hello;
+use crate::hello_bytes::{hello, write_hello};
 use crate::values::Frame;
 use messages::{Seens, Words};
 use octets::{Fault, Reader, put_byte, put_bytes};
@@ -18,7 +18,7 @@ pub fn read_frame(bytes: &[u8], n: u8) -> Result<Frame, Fault>
     ensures only { OnlyFrame n bytes.now result }
 {
     let mut reader = Reader { left: bytes };
-    let kind = reader.first()?;
+    let kind = reader.byte()?;
     match kind {
         1 => {
             let hello = hello(&mut reader, n)?;
@@ -52,7 +52,6 @@ pub fn write_packet(bytes: &[u8], out: &mut [u8]) -> Option<usize>
 
 // A frame of words at the front of `out` and how many bytes it has, or nothing where they do not fit.
 pub fn write_words(words: Words, out: &mut [u8]) -> Option<usize>
-    requires { words.count ≤ 4 }
     ensures wrote { Wrote (bytes_of_words words) out.old result out.new }
     ensures again { FrameAgain (some_words words) result out.new }
 {
@@ -61,9 +60,21 @@ pub fn write_words(words: Words, out: &mut [u8]) -> Option<usize>
 
 // A frame of what was seen at the front of `out` and how many bytes it has, or nothing where they do not fit.
 pub fn write_seens(seens: Seens, out: &mut [u8]) -> Option<usize>
-    requires { seens.count ≤ 4 }
     ensures wrote { Wrote (bytes_of_seens seens) out.old result out.new }
     ensures again { FrameAgain (some_seen seens) result out.new }
 {
     put_seens(seens, out)
+}
+
+// Any frame at the front of `out` and how many bytes it has, or nothing where they do not fit.
+pub fn write_frame(frame: Frame, out: &mut [u8]) -> Option<usize>
+    ensures wrote { Wrote (bytes_of_frame (told_by frame.entry)) out.old result out.new }
+    ensures again { FrameAgain (told_by frame.entry) result out.new }
+{
+    match frame {
+        Frame::Hello(hello) => write_hello(hello, out),
+        Frame::Words(words) => write_words(words, out),
+        Frame::Seen(seens) => write_seens(seens, out),
+        Frame::Packet(bytes) => write_packet(bytes, out),
+    }
 }

@@ -10,13 +10,13 @@ mod line_bytes;
 mod settings_bytes;
 mod values;
 
-pub use frame_bytes::{read_frame, write_packet, write_seens, write_words};
+pub use frame_bytes::{read_frame, write_frame, write_packet, write_seens, write_words};
 pub use hello_bytes::write_hello;
 pub use line_bytes::{read_line, write_line};
 pub use messages::{Seens, Words};
 pub use octets::Fault;
 pub use settings_bytes::{read_settings, write_settings};
-pub use values::{Entry, Frame, Line, fault_number};
+pub use values::{Entry, Frame, Line};
 
 #[cfg(test)]
 mod tests;

@@ -18,7 +18,7 @@ fn counted_word(reader: &mut Reader, n: u8) -> Result<Word, Fault>
     ensures { counted_in n reader.old.left.now ≡ with_left result reader.new.left.now }
 {
     let word = read_word(reader, n)?;
-    if word.id.count >= 0x8000_0000_0000_0000 {
+    if !word.id.is_counted() {
         return Err(Fault::Count);
     }
     Ok(word)
@@ -56,7 +56,7 @@ fn line(reader: &mut Reader, n: u8) -> Result<Line, Fault>
     ensures reads { line_in n reader.old.left.now ≡ with_left result reader.new.left.now }
     ensures fits { Bytes reader.old.left.now }
 {
-    let kind = reader.first()?;
+    let kind = reader.byte()?;
     if kind != 5 {
         return Err(Fault::Form);
     }
@@ -88,8 +88,7 @@ fn entry_length(entry: Entry) -> usize
 {
     match entry {
         Entry::Began(_, _) => 3,
-        Entry::Said(word) => 1 + word_length(word),
-        Entry::Taken(word) => 1 + word_length(word),
+        Entry::Said(word) | Entry::Taken(word) => 1 + word_length(word),
         Entry::Refused(_) => 2,
     }
 }

@@ -13,20 +13,19 @@ use octets::{Fault, Reader, put_byte, put_number};
 pub fn boxes(reader: &mut Reader) -> Result<u8, Fault>
     ensures { boxes_in reader.old.left.now ≡ with_left result reader.new.left.now }
 {
-    let boxes = reader.byte()?;
-    if boxes < 1 || boxes > 64 {
-        return Err(Fault::Range);
+    match reader.byte()? {
+        boxes @ 1..=64 => Ok(boxes),
+        _ => Err(Fault::Range),
     }
-    Ok(boxes)
 }
 
 fn wires(reader: &mut Reader) -> Result<[u16; 8], Fault>
     ensures { wires_in reader.old.left.now ≡ with_left result reader.new.left.now }
 {
-    let mut costs = [0u16; 8];
-    for i in 0..8usize {
-        let cost = reader.number(2)?;
-        costs[i] = cost as u16;
+    let mut costs = [0; 8];
+    for cost in &mut costs {
+        let number = reader.number(2)?;
+        *cost = number as u16;
     }
     Ok(costs)
 }
@@ -37,7 +36,7 @@ pub fn read_settings(bytes: &[u8]) -> Result<Settings, Fault>
     ensures only { OnlySettings bytes.now result }
 {
     let mut reader = Reader { left: bytes };
-    let kind = reader.first()?;
+    let kind = reader.byte()?;
     if kind != 6 {
         return Err(Fault::Form);
     }
@@ -55,8 +54,8 @@ fn put_wires(out: &mut [u8], at: usize, costs: [u16; 8]) -> usize
     ensures wrote { out.new ≡ put at (bytes_of_wires costs) out.old }
 {
     let mut next = at;
-    for i in 0..8usize {
-        next = put_number(out, next, 2, u64::from(costs[i]));
+    for cost in costs {
+        next = put_number(out, next, 2, u64::from(cost));
     }
     next
 }

@@ -6,7 +6,7 @@ use messages::Hello;
 fn fault_in(bytes: &[u8]) -> u8 {
     match read_frame(bytes, 4) {
         Ok(_) => 0,
-        Err(fault) => fault_number(fault),
+        Err(fault) => u8::from(fault),
     }
 }
 

@@ -1,4 +1,4 @@
 pub mod Tables
-pub mod Steps
+pub mod Wires
 pub mod Same
 pub mod Lowest

@@ -1,5 +1,6 @@
 -- What the state and the answers of a box's wires stand for in the model. Assumes nothing.
 use Rattle.std.specs.Prelude.{◌≡◌, ℕ, ◌+◌, ◌^◌, ◌<◌, true, false, cond, ◌&&◌, List, Some, None, Option, ◌==◌, nat_le, nat_lt, slice_index_or}
+pub use Rattle.messages.specs.Refusals.{RefusedBy}
 use Rattle.messages.specs.Values.{at}
 use Rattle.messages.specs.declared.values.Hello.{Hello}
 use Rattle.messages.specs.declared.values.Settings.{Settings}

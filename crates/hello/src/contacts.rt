@@ -1,8 +1,7 @@
-// The steps of one wire, and of all eight at once.
-ghost use Rattle.std.specs.Prelude.{◌≡◌, ℕ, if◌then◌else◌, nat_eq};
-ghost use Rattle.hello.specs.State.{wire_at, wire_of};
+// The steps of one wire.
+ghost use Rattle.std.specs.Prelude.{◌≡◌, if◌then◌else◌, nat_eq};
+ghost use Rattle.hello.specs.State.{wire_of};
 ghost use Rattle.linkmodel.specs.Links.{Silent as Unheard, aged, closed_to, heard_on, opens_to, taken, who_on};
-ghost use Rattle.messages.specs.Values.{at};
 
 use crate::state::{Contact, Wire};
 
@@ -15,14 +14,10 @@ impl Wire {
         ensures { wire_of result ≡ aged now (wire_of self) }
     {
         match self {
-            Wire::Silent => Wire::Silent,
-            Wire::Heard(c) | Wire::Open(c) => {
-                if c.when as u64 + HOLDS_FOR < now as u64 {
-                    Wire::Silent
-                } else {
-                    self
-                }
+            Wire::Heard(c) | Wire::Open(c) if u64::from(c.when) + HOLDS_FOR < u64::from(now) => {
+                Wire::Silent
             }
+            _ => self,
         }
     }
 
@@ -31,7 +26,7 @@ impl Wire {
         ensures { wire_of result ≡ closed_to e (wire_of self) }
     {
         match self {
-            Wire::Open(c) => if c.from == e { Wire::Heard(c) } else { self },
+            Wire::Open(c) if c.from == e => Wire::Heard(c),
             _ => self,
         }
     }
@@ -47,20 +42,14 @@ impl Wire {
     pub(crate) fn opens_to(self, e: u8) -> bool
         ensures { result ≡ opens_to e (wire_of self) }
     {
-        match self {
-            Wire::Open(c) => c.from == e,
-            _ => false,
-        }
+        matches!(self, Wire::Open(c) if c.from == e)
     }
 
     // Whether a road to another box than `e` is.
     pub(crate) fn taken(self, e: u8) -> bool
         ensures { result ≡ taken e (wire_of self) }
     {
-        match self {
-            Wire::Open(c) => c.from != e,
-            _ => false,
-        }
+        matches!(self, Wire::Open(c) if c.from != e)
     }
 
     // The drawn number that was heard on it, 0 if none.
@@ -82,37 +71,4 @@ impl Wire {
             Wire::Heard(c) | Wire::Open(c) => Some(c.from),
         }
     }
-}
-
-// All eight a tick later.
-pub(crate) fn all_aged(wires: [Wire; 8], now: u32) -> [Wire; 8]
-    ensures { (w : ℕ) → wire_at result w ≡ aged now (wire_at wires w) }
-{
-    let mut left = wires;
-    for w in 0..8 {
-        left[w] = left[w].aged(now);
-    }
-    left
-}
-
-// None of them has the road to box `e`.
-pub(crate) fn all_closed_to(wires: [Wire; 8], e: u8) -> [Wire; 8]
-    ensures { (w : ℕ) → wire_at result w ≡ closed_to e (wire_at wires w) }
-{
-    let mut left = wires;
-    for w in 0..8 {
-        left[w] = left[w].closed_to(e);
-    }
-    left
-}
-
-// Those without a cost are silent.
-pub(crate) fn all_costed(wires: [Wire; 8], costs: [u16; 8]) -> [Wire; 8]
-    ensures { (w : ℕ) → wire_at result w ≡ (if nat_eq (at costs w) 0 then Unheard else wire_at wires w) }
-{
-    let mut left = wires;
-    for w in 0..8 {
-        left[w] = left[w].costed(costs[w]);
-    }
-    left
 }

@@ -1,10 +1,9 @@
 // Hellos that a box sends and hears.
-ghost use Rattle.std.specs.Prelude.{◌≡◌, ℕ, ◌<◌, cond, IfOk, Some, None, Ok, Err, ◌==◌};
-ghost use Rattle.hello.specs.State.{greeting_of, hears_refusal, hello_on, links_of, reason_of, sent_as, wire_at, wire_of};
+ghost use Rattle.std.specs.Prelude.{◌≡◌, ℕ, ◌<◌, cond, IfOk, ◌==◌};
+ghost use Rattle.hello.specs.State.{RefusedBy, greeting_of, hears_refusal, hello_on, links_of, reason_of, sent_as, wire_at, wire_of};
 ghost use Rattle.linkmodel.specs.Links.{Heard as HeardFrom, Open as OpenTo, closed_to, greeted, hears_hello, hello_refusal};
 
 use crate::answers::Refusal;
-use crate::contacts;
 use crate::state::{Contact, Links, Wire};
 use messages::Hello;
 
@@ -26,18 +25,17 @@ impl Links {
         })
     }
 
-    // Why a hello on a wire that there is is refused, if it is.
-    fn hello_refusal(self, wire: u8, hello: Hello) -> Option<Refusal>
-        requires { wire < 8 }
-        ensures { result ≡ reason_of (hello_refusal wire (greeting_of hello) (links_of self)) }
+    // Whether a hello on a wire that has a cost is refused, and why.
+    fn admits(self, wire: u8, hello: Hello) -> Result<(), Refusal>
+        ensures { RefusedBy (reason_of (hello_refusal wire (greeting_of hello) (links_of self))) result }
     {
         if hello.from >= self.n || hello.from == self.me || hello.drawn == 0 {
-            return Some(Refusal::OutOfRange);
+            return Err(Refusal::OutOfRange);
         }
-        if self.wires[wire as usize].taken(hello.from) {
-            return Some(Refusal::OtherBox);
+        if self.wire_at(wire).taken(hello.from) {
+            return Err(Refusal::OtherBox);
         }
-        None
+        Ok(())
     }
 
     // What a wire is once a hello came on it: open if the hello names the number that this box drew, so that both have heard each other.
@@ -58,34 +56,30 @@ impl Links {
 
     // What the other wires are then: if the hello brings another drawn number of its box, that box has fallen, and no road to it is open.
     fn others_after(self, hello: Hello) -> [Wire; 8]
-        requires { hello.from < 64 }
         ensures { (v : ℕ) → wire_at result v ≡ cond ((links_of self).last hello.from == hello.drawn) (wire_at self.wires v) (closed_to hello.from (wire_at self.wires v)) }
     {
-        if self.last[hello.from as usize] == hello.drawn {
+        if self.last(hello.from) == hello.drawn {
             self.wires
         } else {
-            contacts::all_closed_to(self.wires, hello.from)
+            self.wires.map(|wire| wire.closed_to(hello.from))
         }
     }
 
     // A hello that isn't refused.
-    fn greeted(self, wire: u8, hello: Hello) -> Links
+    fn greeted(mut self, wire: u8, hello: Hello) -> Links
         requires { (wire < 8) × (hello.from < 64) }
         ensures { links_of result ≡ greeted wire (greeting_of hello) (links_of self) }
     {
-        let mut wires = self.others_after(hello);
-        wires[wire as usize] = self.after(hello);
-        let mut last = self.last;
-        last[hello.from as usize] = hello.drawn;
-        let mut next = self;
-        next.wires = wires;
-        next.last = last;
-        next
+        let heard = self.after(hello);
+        self.wires = self.others_after(hello);
+        self.wires[wire as usize] = heard;
+        self.last[hello.from as usize] = hello.drawn;
+        self
     }
 
     // A hello comes on a wire; on one without a cost it is dropped.
     pub fn hears(self, wire: u8, hello: Hello) -> Result<Links, Refusal>
-        ensures refused { elim result [ Ok s ↦ hears_refusal wire (greeting_of hello) (links_of self) ≡ None | Err e ↦ hears_refusal wire (greeting_of hello) (links_of self) ≡ Some e ] }
+        ensures refused { RefusedBy (hears_refusal wire (greeting_of hello) (links_of self)) result }
         ensures is { IfOk result (λ s. links_of s ≡ hears_hello wire (greeting_of hello) (links_of self)) }
     {
         if wire >= 8 {
@@ -94,9 +88,7 @@ impl Links {
         if self.costs[wire as usize] == 0 {
             return Ok(self);
         }
-        match self.hello_refusal(wire, hello) {
-            Some(refusal) => Err(refusal),
-            None => Ok(self.greeted(wire, hello)),
-        }
+        self.admits(wire, hello)?;
+        Ok(self.greeted(wire, hello))
     }
 }

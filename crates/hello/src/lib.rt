@@ -13,5 +13,5 @@ mod state;
 #[cfg(test)]
 mod tests;
 
-pub use answers::{Refusal, refusal_number};
+pub use answers::Refusal;
 pub use state::Links;

@@ -11,34 +11,27 @@ impl Links {
         ensures lowest { LowestTo to (links_of self) result }
         ensures costs { road_cost to (links_of self) ≡ cost_over result (links_of self) }
     {
-        let wires = self.wires;
-        for w in 0u8..8 {
-            if wires[w as usize].opens_to(to) {
-                return Some(w);
-            }
-        }
-        None
+        self.wires
+            .iter()
+            .position(|wire| wire.opens_to(to))
+            .map(|w| w as u8)
     }
 
     // What the road to a box costs, 0 if it isn't open.
     pub fn road(self, to: u8) -> u16
         ensures { result ≡ road_cost to (links_of self) }
     {
-        match self.wire_to(to) {
-            Some(wire) => self.costs[wire as usize],
-            None => 0,
-        }
+        self.wire_to(to).map_or(0, |wire| self.cost(wire))
     }
 
     // What it knows of a wire: nothing of one that isn't there.
     pub(crate) fn wire_at(self, wire: u8) -> Wire
         ensures { wire_of result ≡ (links_of self).wire wire }
     {
-        if wire < 8 {
-            self.wires[wire as usize]
-        } else {
-            Wire::Silent
-        }
+        self.wires
+            .get(usize::from(wire))
+            .copied()
+            .unwrap_or(Wire::Silent)
     }
 
     // Whom it heard on a wire.
@@ -52,18 +45,14 @@ impl Links {
     pub fn last(self, of: u8) -> u64
         ensures { result ≡ (links_of self).last of }
     {
-        if of < 64 { self.last[of as usize] } else { 0 }
+        self.last.get(usize::from(of)).copied().unwrap_or(0)
     }
 
     // What a wire costs, 0 if there is none.
     pub fn cost(self, wire: u8) -> u16
         ensures { result ≡ (links_of self).cost wire }
     {
-        if wire < 8 {
-            self.costs[wire as usize]
-        } else {
-            0
-        }
+        self.costs.get(usize::from(wire)).copied().unwrap_or(0)
     }
 
     // The number that it drew.

@@ -2,7 +2,7 @@
 ghost use Rattle.std.specs.Prelude.{◌<◌, ◌≤◌};
 
 // Who was heard, under which drawn number and at which tick.
-#[derive(Clone, Copy)]
+#[derive(Clone, Copy, Debug, PartialEq, Eq)]
 pub struct Contact {
     pub(crate) from: u8,
     pub(crate) drawn: u64,
@@ -10,7 +10,7 @@ pub struct Contact {
 }
 
 // A wire on which nobody was heard, or who was, with no road over it or with one.
-#[derive(Clone, Copy)]
+#[derive(Clone, Copy, Debug, PartialEq, Eq)]
 pub enum Wire {
     Silent,
     Heard(Contact),
@@ -19,7 +19,7 @@ pub enum Wire {
 
 // Box `me` of `n`, the number that it drew, and how often it ticked. `costs`: what each wire costs, 0 if there is none.
 // `last`: the drawn number of the last hello taken from each box, on any wire, 0 if there was none.
-#[derive(Clone, Copy)]
+#[derive(Clone, Copy, Debug, PartialEq, Eq)]
 pub struct Links {
     pub(crate) n: u8,
     pub(crate) me: u8,

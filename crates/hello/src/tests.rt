@@ -1,34 +1,23 @@
 // Two boxes on two wires.
-use crate::answers::Refusal;
 use crate::state::Links;
 use messages::{Hello, Settings};
 use std::test::Fail;
 
-fn granted(r: Result<Links, Refusal>) -> Result<Links, Fail> {
-    match r {
-        Ok(links) => Ok(links),
-        Err(_) => Err(Fail::new("refused")),
-    }
-}
-
 // Box `me` of two; its wires 2 and 5 are there.
 fn wired(me: u8, drawn: u64) -> Result<Links, Fail> {
-    let links = granted(Links::new(2, me, drawn))?;
-    granted(links.rewire(Settings {
+    let links = Links::new(2, me, drawn)?;
+    Ok(links.rewire(Settings {
         boxes: 2,
         me,
         costs: [0, 0, 7, 0, 0, 9, 0, 0],
-    }))
+    })?)
 }
 
 // Each hears the hello of the other.
 fn exchanged(a: Links, b: Links, wire: u8) -> Result<(Links, Links), Fail> {
     let from_a = a.hello_on(wire).ok_or("no hello")?;
     let from_b = b.hello_on(wire).ok_or("no hello")?;
-    Ok((
-        granted(a.hears(wire, from_b))?,
-        granted(b.hears(wire, from_a))?,
-    ))
+    Ok((a.hears(wire, from_b)?, b.hears(wire, from_a)?))
 }
 
 // Box 0, which drew 11, with its road to box 1, which drew 22, open over both wires.
@@ -43,7 +32,7 @@ fn open() -> Result<Links, Fail> {
 fn ticked(links: Links, times: u8) -> Result<Links, Fail> {
     let mut later = links;
     for _ in 0..times {
-        later = granted(later.tick())?;
+        later = later.tick()?;
     }
     Ok(later)
 }
@@ -63,14 +52,14 @@ fn opens_after_two_hellos_each_way(rt: HostRuntime) -> Result<(), Fail> {
 fn another_named_number_closes_its_wire(rt: HostRuntime) -> Result<(), Fail> {
     let a = open()?;
     assert_eq!(rt; a.wire_to(1), Some(2));
-    let a = granted(a.hears(
+    let a = a.hears(
         2,
         Hello {
             from: 1,
             drawn: 22,
             heard: 10,
         },
-    ))?;
+    )?;
     assert_eq!(rt; a.wire_to(1), Some(5));
     assert_eq!(rt; a.road(1), 9);
     Ok(())
@@ -79,14 +68,14 @@ fn another_named_number_closes_its_wire(rt: HostRuntime) -> Result<(), Fail> {
 #[test]
 fn another_drawn_number_closes_both(rt: HostRuntime) -> Result<(), Fail> {
     let a = open()?;
-    let a = granted(a.hears(
+    let a = a.hears(
         5,
         Hello {
             from: 1,
             drawn: 33,
             heard: 0,
         },
-    ))?;
+    )?;
     assert_eq!(rt; a.last(1), 33);
     assert_eq!(rt; a.who(2), Some(1));
     assert_eq!(rt; a.wire_to(1), None);
@@ -109,10 +98,10 @@ fn goes_over_the_lower_wire_again(rt: HostRuntime) -> Result<(), Fail> {
         drawn: 22,
         heard: 11,
     };
-    let a = granted(ticked(open()?, 30)?.hears(5, fits))?;
+    let a = ticked(open()?, 30)?.hears(5, fits)?;
     assert_eq!(rt; a.road(1), 7);
     let a = ticked(a, 11)?;
     assert_eq!(rt; a.road(1), 9);
-    assert_eq!(rt; granted(a.hears(2, fits))?.road(1), 7);
+    assert_eq!(rt; a.hears(2, fits)?.road(1), 7);
     Ok(())
 }

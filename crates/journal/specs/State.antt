@@ -15,7 +15,7 @@ known_by s = record { n = s.n; me = s.me; word = entry_at s.counts s.tags s.cost
 
 -- what was known then
 abbrev pub known_of : Memory → Known
-known_of m = record { n = m.n; me = m.me; word = entry_at m.counts m.tags m.costs }
+known_of m = known_by m.notes
 
 -- the map of the boxes by their words
 abbrev pub map_of : Known → Map

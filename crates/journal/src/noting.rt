@@ -30,7 +30,7 @@ impl Notes {
         requires { word.id.about < 64 }
         ensures { known_by self.new ≡ with_word word (known_by self.old) }
     {
-        let about = word.id.about as usize;
+        let about = usize::from(word.id.about);
         self.counts[about] = word.id.count;
         self.tags[about] = word.id.tag;
         let costs = word.costs;
@@ -44,8 +44,7 @@ impl Notes {
     {
         match entry {
             Entry::Began(n, me) => *self = Notes::begun(n, me),
-            Entry::Said(word) => self.has(word),
-            Entry::Taken(word) => self.has(word),
+            Entry::Said(word) | Entry::Taken(word) => self.has(word),
             Entry::Refused(_) => {}
         }
     }
@@ -54,7 +53,7 @@ impl Notes {
     pub(crate) fn note_line(&mut self, left: &[u8], until: u32) -> Result<Option<usize>, Fault>
         ensures { Turned until left.now (known_by self.old) (known_by self.new) result }
     {
-        if left.len() == 0 {
+        if left.is_empty() {
             return Ok(None);
         }
         let (line, long) = read_line(left, self.n)?;
@@ -69,23 +68,16 @@ impl Notes {
     pub(crate) fn remembered(self) -> Memory
         ensures { known_of result ≡ known_by self }
     {
-        let counts = self.counts;
-        let tags = self.tags;
-        let costs = self.costs;
         let mut far = [ways::NEVER; 64];
         let mut next = [ways::NONE; 64];
         let words = ways::Words {
-            counts: &counts,
-            tags: &tags,
-            costs: &costs,
+            counts: &self.counts,
+            tags: &self.tags,
+            costs: &self.costs,
         };
         let _ = ways::least_ways(self.n, self.me, words, &mut far, &mut next);
         Memory {
-            n: self.n,
-            me: self.me,
-            counts,
-            tags,
-            costs,
+            notes: self,
             far,
             next,
         }

@@ -10,14 +10,14 @@ impl Memory {
     pub fn boxes(&self) -> u8
         ensures { result ≡ (known_of self.now).n }
     {
-        self.n
+        self.notes.n
     }
 
     // Which box's journal it is, 0 before the first line.
     pub fn number(&self) -> u8
         ensures { result ≡ (known_of self.now).me }
     {
-        self.me
+        self.notes.me
     }
 
     // The last word of a box, none if it had none.
@@ -27,17 +27,17 @@ impl Memory {
         if about >= 64 {
             return None;
         }
-        let i = about as usize;
-        let count = self.counts[i];
+        let i = usize::from(about);
+        let count = self.notes.counts[i];
         if count == 0 {
             return None;
         }
         let id = WordId {
             about,
             count,
-            tag: self.tags[i],
+            tag: self.notes.tags[i],
         };
-        let costs = self.costs[i];
+        let costs = self.notes.costs[i];
         Some(Word { id, costs })
     }
 
@@ -48,32 +48,32 @@ impl Memory {
         if a >= 64 || e >= 64 {
             return 0;
         }
-        let back = self.costs[e as usize][a as usize];
+        let back = self.notes.costs[usize::from(e)][usize::from(a)];
         if back == 0 {
             return 0;
         }
-        self.costs[a as usize][e as usize]
+        self.notes.costs[usize::from(a)][usize::from(e)]
     }
 
     // How far a box is, nothing if no way leads there or there is no such box.
     pub fn distance(&self, to: u8) -> Option<u32>
         ensures { far_of result ≡ distance_to to (known_of self.now) }
     {
-        if to >= self.n {
+        if to >= self.notes.n {
             return None;
         }
-        let far = self.far[to as usize];
-        if far == ways::NEVER { None } else { Some(far) }
+        let far = self.far[usize::from(to)];
+        (far != ways::NEVER).then_some(far)
     }
 
     // The next box towards another, nothing to itself, if no way leads there or there is no such box.
     pub fn next(&self, to: u8) -> Option<u8>
         ensures { hop_of result ≡ next_to to (known_of self.now) }
     {
-        if to >= self.n {
+        if to >= self.notes.n {
             return None;
         }
-        let next = self.next[to as usize];
-        if next == ways::NONE { None } else { Some(next) }
+        let next = self.next[usize::from(to)];
+        (next != ways::NONE).then_some(next)
     }
 }

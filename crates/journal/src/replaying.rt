@@ -9,7 +9,7 @@ use crate::notes::Notes;
 use frames::Fault;
 
 // What was known then, how many of the bytes say so, and what is wrong with the line after them, if that is why no more was read.
-#[derive(Clone, Copy)]
+#[derive(Clone, Copy, Debug, PartialEq, Eq)]
 pub struct Outcome {
     pub memory: Memory,
     pub place: usize,
@@ -29,25 +29,16 @@ pub fn replay(bytes: &[u8], until: u32) -> Outcome
 {
     let mut notes = Notes::begun(0, 0);
     let mut place = 0;
-    loop {
+    let fault = 'lines: loop {
         match notes.note_line(&bytes[place..], until) {
-            Ok(noted) => match noted {
-                Some(long) => place += long,
-                None => {
-                    return Outcome {
-                        memory: notes.remembered(),
-                        place,
-                        fault: None,
-                    };
-                }
-            },
-            Err(fault) => {
-                return Outcome {
-                    memory: notes.remembered(),
-                    place,
-                    fault: Some(fault),
-                };
-            }
+            Ok(Some(long)) => place += long,
+            Ok(None) => break None,
+            Err(fault) => break Some(fault),
         }
+    };
+    Outcome {
+        memory: notes.remembered(),
+        place,
+        fault,
     }
 }

@@ -11,13 +11,13 @@ const BOOK: &[u8] = b"\x05\0\0\0\x01\0\x02\0\
 #[test]
 fn up_to_a_tick(rt: HostRuntime) {
     let before = replay(BOOK, 2);
-    assert!(rt; before.place == 35);
-    assert!(rt; before.memory.boxes() == 2);
-    assert!(rt; before.memory.distance(1) == None);
+    assert_eq!(rt; before.place, 35);
+    assert_eq!(rt; before.memory.boxes(), 2);
+    assert_eq!(rt; before.memory.distance(1), None);
     let all = replay(BOOK, 9);
-    assert!(rt; all.place == 62);
-    assert!(rt; all.fault == Some(Fault::Form));
-    assert!(rt; all.memory.road(1, 0) == 7);
-    assert!(rt; all.memory.distance(1) == Some(5));
-    assert!(rt; all.memory.next(1) == Some(1));
+    assert_eq!(rt; all.place, 62);
+    assert_eq!(rt; all.fault, Some(Fault::Form));
+    assert_eq!(rt; all.memory.road(1, 0), 7);
+    assert_eq!(rt; all.memory.distance(1), Some(5));
+    assert_eq!(rt; all.memory.next(1), Some(1));
 }

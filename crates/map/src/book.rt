@@ -1,6 +1,6 @@
 // A journal file, and the tick up to which it is read.
-use journal::Outcome;
-use std::{fs, io};
+use journal::{Memory, Outcome};
+use std::{fmt, fs, io};
 
 // What the journal in a file says up to a tick. What is wrong with the file is said on standard error.
 pub(crate) fn open(rt: &HostRuntime, file: &str, until: u32) -> io::Result<Outcome> {
@@ -18,8 +18,46 @@ pub(crate) fn tick(word: &str) -> Option<u32> {
     if word.starts_with("+") {
         return None;
     }
-    match word.parse::<u32>() {
-        Ok(tick) => Some(tick),
-        Err(_) => None,
+    word.parse().ok()
+}
+
+// What is wrong with a line of a journal, and where it begins.
+#[derive(Clone, Copy, Debug, PartialEq, Eq)]
+pub(crate) struct Wrong {
+    number: u8,
+    place: usize,
+}
+
+impl fmt::Display for Wrong {
+    fn fmt<W: fmt::Write>(&self, f: &mut fmt::Formatter<W>) -> fmt::Result {
+        let Wrong { number, place } = *self;
+        write!(f, "fault {number} at {place}")
     }
+}
+
+// What is wrong with the line after those that were read, if anything is.
+pub(crate) fn fault_of(book: &Outcome) -> Option<Wrong> {
+    book.fault.map(|fault| Wrong {
+        number: u8::from(fault),
+        place: book.place,
+    })
+}
+
+// Calls `each` with every road, from a box to another, and its cost.
+pub(crate) fn each_road<F: Fn(u8, u8, u16) -> io::Result<()> + Drop>(
+    memory: &Memory,
+    each: F,
+) -> io::Result<()>
+    requires { F.IsAlwaysCallable each }
+{
+    let n = memory.boxes();
+    for a in 0..n {
+        for e in 0..n {
+            let cost = memory.road(a, e);
+            if cost > 0 {
+                each(a, e, cost)?;
+            }
+        }
+    }
+    Ok(())
 }

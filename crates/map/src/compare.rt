@@ -1,7 +1,6 @@
 // Which box lacks which word that another has.
 use crate::book;
 use chart::{Held, newest};
-use frames::fault_number;
 use journal::Memory;
 use std::io;
 
@@ -33,12 +32,8 @@ pub(crate) fn compare(rt: &HostRuntime, files: &[String]) -> io::Result<()> {
     let mut books = Vec::new(rt.alloc());
     for file in files {
         let book = book::open(rt, file.as_str(), u32::MAX)?;
-        if let Some(fault) = book.fault {
-            println!(rt;
-                "book {file}: fault {} at {}",
-                fault_number(fault),
-                book.place
-            )?;
+        if let Some(wrong) = book::fault_of(&book) {
+            println!(rt; "book {file}: {wrong}")?;
         }
         if book.memory.boxes() == 0 {
             println!(rt; "book {file}: names no box")?;
@@ -48,9 +43,7 @@ pub(crate) fn compare(rt: &HostRuntime, files: &[String]) -> io::Result<()> {
     }
     let mut lacking = false;
     for about in 0..64 {
-        if tell_lacking(rt, books.as_slice(), about)? {
-            lacking = true;
-        }
+        lacking |= tell_lacking(rt, books.as_slice(), about)?;
     }
     if lacking {
         return Ok(());

@@ -1,6 +1,6 @@
 // The map of a box as a Graphviz digraph.
+use crate::book;
 use chart::is_taken;
-use frames::fault_number;
 use journal::{Memory, Outcome};
 use std::io;
 
@@ -17,21 +17,14 @@ fn draw_boxes(rt: &HostRuntime, memory: &Memory) -> io::Result<()> {
 }
 
 fn draw_roads(rt: &HostRuntime, memory: &Memory) -> io::Result<()> {
-    let n = memory.boxes();
-    for a in 0..n {
-        for e in 0..n {
-            let cost = memory.road(a, e);
-            if cost > 0 {
-                let mark = if is_taken(memory, a, e) {
-                    ", color=red, penwidth=2"
-                } else {
-                    ""
-                };
-                println!(rt; "  {a} -> {e} [label=\"{cost}\"{mark}];")?;
-            }
-        }
-    }
-    Ok(())
+    book::each_road(memory, |a, e, cost| {
+        let mark = if is_taken(memory, a, e) {
+            ", color=red, penwidth=2"
+        } else {
+            ""
+        };
+        println!(rt; "  {a} -> {e} [label=\"{cost}\"{mark}];")
+    })
 }
 
 pub(crate) fn draw(rt: &HostRuntime, book: &Outcome) -> io::Result<()> {
@@ -39,8 +32,8 @@ pub(crate) fn draw(rt: &HostRuntime, book: &Outcome) -> io::Result<()> {
     draw_boxes(rt, &book.memory)?;
     draw_roads(rt, &book.memory)?;
     println!(rt; "}}")?;
-    match book.fault {
-        Some(fault) => println!(rt; "// fault {} at {}", fault_number(fault), book.place),
+    match book::fault_of(book) {
+        Some(wrong) => println!(rt; "// {wrong}"),
         None => Ok(()),
     }
 }

@@ -8,6 +8,7 @@ mod compare;
 mod draw;
 mod tell;
 
+use journal::Outcome;
 use std::{env, fmt, io};
 
 const HELP: &str = "map BOOK [TICK]: the map and the ways that a box had, by its journal.
@@ -49,22 +50,19 @@ fn words(rt: &HostRuntime) -> io::Result<Vec<String>> {
     Ok(words)
 }
 
-fn show(rt: &HostRuntime, file: &str, until: u32, dot: bool) -> io::Result<()> {
-    let book = book::open(rt, file, until)?;
-    if dot {
-        draw::draw(rt, &book)
-    } else {
-        tell::tell(rt, &book)
-    }
-}
-
-// A book, and a tick if there is one.
-fn one_book(rt: &HostRuntime, words: &[String], dot: bool) -> io::Result<()> {
+// Shows a book, up to a tick if there is one.
+fn one_book<F: Fn(&HostRuntime, &Outcome) -> io::Result<()> + Drop>(
+    rt: &HostRuntime,
+    words: &[String],
+    show: F,
+) -> io::Result<()>
+    requires { F.IsAlwaysCallable show }
+{
     match words {
         [] => refuse(rt, "no book is given"),
-        [file] => show(rt, file.as_str(), u32::MAX, dot),
+        [file] => show(rt, &book::open(rt, file.as_str(), u32::MAX)?),
         [file, tick] => match book::tick(tick.as_str()) {
-            Some(until) => show(rt, file.as_str(), until, dot),
+            Some(until) => show(rt, &book::open(rt, file.as_str(), until)?),
             None => refuse(
                 rt,
                 format_args!("'{tick}' is no tick, a number up to 4294967295"),
@@ -82,7 +80,7 @@ fn main(rt: HostRuntime) -> io::Result<()> {
     };
     match first.as_str() {
         "--help" => rt.print(HELP),
-        "--dot" => one_book(&rt, others, true),
+        "--dot" => one_book(&rt, others, draw::draw),
         "--compare" => {
             if others.len() < 2 {
                 return refuse(&rt, "to compare takes two books at least");
@@ -93,7 +91,7 @@ fn main(rt: HostRuntime) -> io::Result<()> {
             if word.starts_with("--") {
                 return refuse(&rt, format_args!("there is no option '{word}'"));
             }
-            one_book(&rt, words, false)
+            one_book(&rt, words, tell::tell)
         }
     }
 }

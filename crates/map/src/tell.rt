@@ -1,20 +1,11 @@
 // The map and the ways of a box, line by line.
+use crate::book;
 use chart::Way;
-use frames::fault_number;
 use journal::{Memory, Outcome};
 use std::io;
 
 fn tell_roads(rt: &HostRuntime, memory: &Memory) -> io::Result<()> {
-    let n = memory.boxes();
-    for a in 0..n {
-        for e in 0..n {
-            let cost = memory.road(a, e);
-            if cost > 0 {
-                println!(rt; "road {a} {e} {cost}")?;
-            }
-        }
-    }
-    Ok(())
+    book::each_road(memory, |a, e, cost| println!(rt; "road {a} {e} {cost}"))
 }
 
 fn tell_ways(rt: &HostRuntime, memory: &Memory) -> io::Result<()> {
@@ -34,8 +25,8 @@ fn tell_ways(rt: &HostRuntime, memory: &Memory) -> io::Result<()> {
 pub(crate) fn tell(rt: &HostRuntime, book: &Outcome) -> io::Result<()> {
     tell_roads(rt, &book.memory)?;
     tell_ways(rt, &book.memory)?;
-    match book.fault {
-        Some(fault) => println!(rt; "fault {} at {}", fault_number(fault), book.place),
+    match book::fault_of(book) {
+        Some(wrong) => println!(rt; "{wrong}"),
         None => Ok(()),
     }
 }

@@ -1,5 +1,5 @@
 -- What the values stand for in the model, and which word is newer. Assumes nothing.
-use Rattle.std.specs.Prelude.{Bool, ◌&&◌, ◌||◌, List, ℕ, eqb, ltb, get_or}
+use Rattle.std.specs.Prelude.{◌^◌, Bool, ◌&&◌, ◌||◌, List, ℕ, map, eqb, ltb, get_or, nat_lt}
 use Rattle.model.specs.Words.{Entry, Word as Told}
 use Rattle.messages.specs.declared.values.Word.{Word}
 use Rattle.messages.specs.declared.values.WordId.{WordId}
@@ -23,3 +23,11 @@ newer_id x y = ltb y.count x.count || (eqb y.count x.count && ltb y.tag x.tag)
 -- the same count and tag
 abbrev pub same_id : WordId → WordId → Bool
 same_id x y = eqb x.count y.count && eqb x.tag y.tag
+
+-- the count is below 2 ^ 63
+abbrev pub low_count : WordId → Bool
+low_count i = nat_lt i.count (2 ^ 63)
+
+-- the numbers of words, each by each
+abbrev pub ids_of : List Word → List WordId
+ids_of words = map (λ x. x.id) words

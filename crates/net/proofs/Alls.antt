@@ -1,20 +1,34 @@
 -- What holds of all below n, one by one; and the box at a place of a list.
-use Rattle.std.proofs.Common.{◌≡◌, ℕ, zero, suc, ◌+◌, ◌<◌, Bool, true, false, ◌&&◌, List, [], ◌∷◌, length, get_or, sym, refl, ap, ◌∙◌, inl, inr, add-one, arith}
-use Rattle.std.proofs.lemmas.Bool.{and_from, and_left, and_right, both_ways, cases_Bool, cases_eq}
+use Rattle.std.proofs.Common.{◌≡◌, ℕ, zero, suc, ◌+◌, ◌<◌, Bool, true, false, ◌&&◌, List, [], ◌∷◌, length, get_or, sym, refl, ap, ◌∙◌, inl, inr, add-zero, add-one, arith}
+use mathlib.Core.Bool.{and-true}
+use Rattle.std.specs.List.{list_all, range_with_len, zip}
+use Rattle.std.proofs.lemmas.Bool.{and_left, and_right, both_ways, cases_Bool, cases_eq}
 use Rattle.model.specs.Promise.{all_below}
 use Rattle.router.specs.State.{box_of}
 use Rattle.router.specs.declared.state.Router.{Router}
 use Rattle.net.specs.Nets.{box_in}
 
--- nothing is below 0
-pub all_none : (f : ℕ → Bool) → all_below 0 f ≡ true
+-- a test holds below m just where it does below k and of each of the others
+all_on : (n k m : ℕ) (f : ℕ → Bool) → m ≡ k + n → all_below m f ≡ (all_below k f && list_all f (range_with_len k n))
 unfolding all_below
-all_none f = refl
+all_on zero k m f e = ap (λ (i : ℕ). all_below i f) (e ∙ add-zero k) ∙ sym (and-true (all_below k f))
+all_on (suc n) k m f e = all_on n (k + 1) m f (omega (arith, e)) ∙ rw (add-one k) (both (f k) (all_below k f) (list_all f (range_with_len (suc k) n)))
+  where
+    both : (a b c : Bool) → ((a && b) && c) ≡ (b && (a && c))
+    both true true c = refl
+    both true false c = refl
+    both false true c = refl
+    both false false c = refl
 
--- one more
-pub all_more : (n : ℕ) (f : ℕ → Bool) → all_below n f ≡ true → f n ≡ true → all_below (n + 1) f ≡ true
+-- all of the numbers below n pass
+pub all_listed : (n : ℕ) (f : ℕ → Bool) → list_all f (range_with_len 0 n) ≡ all_below n f
 unfolding all_below
-all_more n f h e = rw add-one (and_from (f n) (all_below n f) e h)
+all_listed n f = sym (all_on n 0 n f (omega arith))
+
+-- a test of boxes with their numbers holds of all just where one of the numbers does
+pub all_zipped : (k : ℕ) (ss : List Router) (g : ℕ × Router → Bool) (f : ℕ → Bool) → ((i x : ℕ) (d : Router) → x ≡ k + i → i < length ss → g (x, get_or ss i d) ≡ f x) → list_all g (zip (range_with_len k (length ss)) ss) ≡ list_all f (range_with_len k (length ss))
+all_zipped k [] g f h = refl
+all_zipped k (s ∷ ss) g f h = λ j. h 0 k s (omega arith) (omega arith) j && all_zipped (k + 1) ss g f (λ i x d e l. h (suc i) x d (omega (arith, e)) (omega (arith, l))) j
 
 -- one that fails
 pub all_fails : (n i : ℕ) (f : ℕ → Bool) → i < n → f i ≡ false → all_below n f ≡ false

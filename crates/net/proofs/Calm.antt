@@ -1,6 +1,6 @@
 -- The tests of the code and the test of rest say the same.
 use Rattle.std.proofs.Common.{◌≡◌, ℕ, ◌<◌, Bool, true, false, not, ◌&&◌, ◌||◌, eqb, ltb, ◌⊎◌, List, length, get_or, sym, refl, ap, ◌∙◌, inl, inr}
-use Rattle.std.proofs.lemmas.Bool.{and_from, and_left, and_right, and_parts, eq-eqb, ne_eqb, eqb-true, not_from_true, not_from_false}
+use Rattle.std.proofs.lemmas.Bool.{and_from, and_left, and_right, and_parts, eq-eqb, ne_eqb, eqb-true, not_from_true}
 use Rattle.messages.specs.Values.{same_id}
 use Rattle.messages.specs.declared.values.WordId.{WordId}
 use Rattle.model.specs.Box.{Box, own_so, must_say}
@@ -12,7 +12,7 @@ use Rattle.model.proofs.Tests.{t_true, true_t}
 use Rattle.router.specs.State.{box_of}
 use Rattle.router.specs.declared.state.Router.{Router}
 use Rattle.net.specs.Nets.{box_in, world_of, Numbered, agrees_with, is_placed, calm_at}
-use Rattle.net.proofs.Alls.{all_at, all_fails, all_same, box_at}
+use Rattle.net.proofs.Alls.{all_at, all_same, box_at}
 
 -- the numbers of the word that a box has of i
 abbrev id_at : Router → ℕ → WordId
@@ -49,16 +49,11 @@ calm_owes ss a s e h =
 pub agree_read : (ss : List Router) (a e : ℕ) (s t : Router) → box_in ss a ≡ box_of s → box_in ss e ≡ box_of t → agrees_with (length ss) (box_in ss a) a (box_in ss e) e ≡ agrees_with (length ss) (box_of s) a (box_of t) e
 agree_read ss a e s t p q = λ k. agrees_with (length ss) (p k) a (q k) e
 
-pub calm_apart : (ss : List Router) (a e : ℕ) → e < length ss → agrees_with (length ss) (box_in ss a) a (box_in ss e) e ≡ false → calm_at ss a ≡ false
-calm_apart ss a e h f =
-    and_right (is_placed ss a) (calm_rest ss a)
-    (and_right (not (must_say (box_in ss a))) (all_below (length ss) (λ e. agrees_with (length ss) (box_in ss a) a (box_in ss e) e))
-    (all_fails (length ss) e (λ e. agrees_with (length ss) (box_in ss a) a (box_in ss e) e) h f))
-
-pub calm_all : (ss : List Router) (a : ℕ) (s : Router) → box_in ss a ≡ box_of s → is_placed ss a ≡ true → must_say (box_of s) ≡ false → all_below (length ss) (λ e. agrees_with (length ss) (box_in ss a) a (box_in ss e) e) ≡ true → calm_at ss a ≡ true
-calm_all ss a s e place h all =
-    and_from (is_placed ss a) (calm_rest ss a) place
-    (and_from (not (must_say (box_in ss a))) (all_below (length ss) (λ e. agrees_with (length ss) (box_in ss a) a (box_in ss e) e)) (not_from_false (must_say (box_in ss a)) (ap must_say e ∙ h)) all)
+-- a box at its place that owes nothing is calm just where it agrees with every box
+pub calm_when : (ss : List Router) (a : ℕ) (s : Router) → box_in ss a ≡ box_of s → is_placed ss a ≡ true → must_say (box_of s) ≡ false → calm_at ss a ≡ all_below (length ss) (λ e. agrees_with (length ss) (box_in ss a) a (box_in ss e) e)
+calm_when ss a s e place h =
+    ap (λ b. b && calm_rest ss a) place
+    ∙ ap (λ b. not b && all_below (length ss) (λ e. agrees_with (length ss) (box_in ss a) a (box_in ss e) e)) (ap must_say e ∙ h)
 
 not_not : (b : Bool) → b ≡ not (not b)
 not_not true = refl

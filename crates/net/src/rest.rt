@@ -10,12 +10,7 @@ use router::Router;
 fn alike(n: u8, one: Router, other: Router) -> bool
     ensures { result ≡ alike_below n (box_of one) (box_of other) }
 {
-    for i in 0..n {
-        if !one.id_of(i).is_same_as(other.id_of(i)) {
-            return false;
-        }
-    }
-    true
+    (0..n).all(|i| one.id_of(i).is_same_as(other.id_of(i)))
 }
 
 // Whether two boxes, of these numbers, agree: both hold the road between them open and have the same words, or neither does.
@@ -37,21 +32,12 @@ fn calm(boxes: &[Router], a: u8) -> bool
 {
     let one = boxes[a as usize];
     let n = boxes.len() as u8;
-    if one.boxes() != n {
-        return false;
-    }
-    if one.box_number() != a {
-        return false;
-    }
-    if one.owes() {
-        return false;
-    }
-    for e in 0..n {
-        if !agree(n, one, a, boxes[e as usize], e) {
-            return false;
-        }
-    }
-    true
+    one.boxes() == n
+        && one.box_number() == a
+        && !one.owes()
+        && (0..n)
+            .zip(boxes)
+            .all(|(e, other)| agree(n, one, a, *other, e))
 }
 
 // Whether these boxes, each with its place as its number, are at rest: whatever has been said is so, and whoever share a road have the same word of every box.
@@ -64,10 +50,5 @@ pub fn at_rest(boxes: &[Router]) -> bool
         return false;
     }
     let n = boxes.len() as u8;
-    for a in 0..n {
-        if !calm(boxes, a) {
-            return false;
-        }
-    }
-    true
+    (0..n).all(|a| calm(boxes, a))
 }

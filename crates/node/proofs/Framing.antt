@@ -29,3 +29,9 @@ replaced (b ∷ bs) x h e =
       long = l;
       packet = ap (λ z. take (z - 4 - 1) (drop 1 (put_mid 1 (length (b ∷ bs) - 4 - 1) (b ∷ bs) x))) l ∙ take_at x _ (length (b ∷ bs) - 4 - 1) (e ∙ k);
     }
+
+-- the frame of that packet: its kind before it, and its sum behind it
+pub turned_frame : (f x after : List ℕ) (r : Result (Unit {0}) SumRefused) → 5 ≤ length f → length x ≡ length (mid_of 1 (length f - 4 - 1) f) → SumWritten (set (put_mid 1 (length f - 4 - 1) f x) 0 4) after r → after ≡ framed x
+turned_frame f x after r h e w =
+    let t = replaced f x h e in
+    framed_sum (put_mid 1 (length f - 4 - 1) f x) after r (omega (arith, t.long)) w ∙ ap framed t.packet

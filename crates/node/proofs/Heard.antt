@@ -1,26 +1,30 @@
 -- What came over a wire, put together.
-use Rattle.std.proofs.Common.{◌≡◌, ℕ, zero, suc, ◌≤◌, List, [], ◌++◌, length, get_or, Some, None, Ok, Err, Option, Result, sym, refl, ap, ◌∙◌, subst, ap₂, append_assoc, arith, length-append}
+use Rattle.std.proofs.Common.{◌≡◌, ℕ, zero, suc, ◌≤◌, List, [], ◌++◌, length, get_or, take, Some, None, Ok, Err, Option, Result, sym, refl, ap, ◌∙◌, subst, ap₂, append_assoc, arith, length-append}
 use Rattle.std.specs.List.{flat_map}
 use Rattle.octets.specs.declared.Fault.{Fault}
 use Rattle.checksum.specs.Crc.{SumFits, sum_bytes}
-use Rattle.checksum.specs.Refused.{body_of}
 use Rattle.messages.specs.declared.values.Word.{Word}
 use Rattle.router.specs.declared.answers.Outcome.{Outcome}
 use Rattle.linkmodel.specs.Station.{Bundle, Out, Station as Whole}
+use Rattle.outbox.specs.Parcels.{contents}
 use Rattle.outbox.specs.declared.reading.Port.{Port}
+use Rattle.outbox.specs.declared.state.Outbox.{Outbox}
 use Rattle.packets.specs.declared.error_quota.Quota.{Quota}
-use Rattle.frames.specs.Reading.{Told, frame_in}
+use Rattle.frames.specs.Reading.{Told, told_by}
+use Rattle.frames.specs.declared.values.Frame.{Frame}
 use Rattle.station.specs.Events.{Did}
 use Rattle.station.specs.Hearing.{answers_from}
 use Rattle.station.specs.State.{station_of}
 use Rattle.station.specs.Ticking.{item_of, no_word}
 use Rattle.station.specs.declared.answers.Refusal.{Refusal as Reason}
 use Rattle.station.specs.declared.state.Station.{Station}
+use Rattle.node.specs.declared.refusals.Refusal.{Refusal}
 use Rattle.node.specs.declared.state.Node.{Node}
-use Rattle.node.specs.Giving.{if_refused, note_of, refused_gives}
-use Rattle.node.specs.Handled.{HandledBy, PassedBy}
-use Rattle.node.specs.Hearing.{FrameDid, Handled, by_frame, note_for, notes_for, passed_as, unless_refused}
+use Rattle.node.specs.Giving.{note_of}
+use Rattle.node.specs.Handled.{HandledBy, PassedBy, ReadAs, RefusedAs}
+use Rattle.node.specs.Hearing.{FrameDid, Handled, by_frame, note_for, notes_for, passed_as, refused_by, unless_refused}
 use Rattle.node.specs.Passing.{Passed}
+use Rattle.node.specs.Refusals.{number_of}
 use Rattle.node.specs.State.{whole_of}
 use Rattle.node.specs.Wires.{out_bytes}
 
@@ -44,31 +48,45 @@ pub fits_long : (f : List ℕ) → SumFits f → 4 ≤ length f
 unfolding sum_bytes
 fits_long f h = omega (arith, ap length h.1, length-append h.0 (sum_bytes h.0))
 
--- nothing refused, or a reason
-pub handled_by_lem : (o : Option Reason) (h : Handled) (s : Whole) (q : Quota) (f new : List ℕ) (after : Node) → whole_of after ≡ if_refused o (λ r. s) h.whole → new ≡ if_refused o (refused_gives s) h.gives →
-    after.quota ≡ q → h.errors ≡ q → h.frame ≡ f → h.goes ≡ None → HandledBy (unless_refused o h s q f) after new f None
-handled_by_lem None h s q f new after w g e he hf hg = record { whole = w; gives = g; errors = e ∙ sym he; left = sym hf; port = sym hg }
-handled_by_lem (Some r) h s q f new after w g e he hf hg = record { whole = w; gives = g; errors = e; left = refl; port = refl }
+-- nothing is in an outbox that was cleared
+pub empty_lem : (o : Outbox) → o.used ≡ 0 → contents o ≡ []
+empty_lem o e = ap (λ k. take k o.bytes) e
+
+-- what a frame was read as
+pub read_lem : (x : Result Told Fault) (f : Frame) → ReadAs x (Ok f) → x ≡ Ok (told_by f)
+read_lem (Ok t) f h = ap (λ (y : Told). Ok y) h
+read_lem (Err e) f h = absurd h
+
+-- a frame that isn't refused
+pub heard_lem : (w : ℕ) (ts : List ℕ) (s : Whole) (q : Quota) (f new : List ℕ) (x : Result Told Fault) (t : Told) (o : Option Reason) (h : Handled) (after : Node) →
+    x ≡ Ok t → by_frame w (Ok t) ts s q f ≡ unless_refused o h s q f → o ≡ None → HandledBy h after new f None → HandledBy (by_frame w x ts s q f) after new f None
+heard_lem w ts s q f new x t o h after e b n k =
+    subst (λ y. HandledBy (by_frame w y ts s q f) after new f None) (sym e)
+    (subst (λ y. HandledBy y after new f None) (sym b) (subst (λ y. HandledBy (unless_refused y h s q f) after new f None) (sym n) k))
+
+-- and one that is
+refused_same : (o : Option Reason) (r : Refusal) (h : Handled) (s : Whole) (q : Quota) (f : List ℕ) → RefusedAs o r → unless_refused o h s q f ≡ refused_by (number_of r) s q f
+refused_same None r h s q f a = absurd a
+refused_same (Some e) r h s q f a = ap (λ k. refused_by k s q f) (sym a)
+
+pub not_heard : (w : ℕ) (ts : List ℕ) (s : Whole) (q : Quota) (f : List ℕ) (x : Result Told Fault) (t : Told) (o : Option Reason) (h : Handled) (r : Refusal) →
+    x ≡ Ok t → by_frame w (Ok t) ts s q f ≡ unless_refused o h s q f → RefusedAs o r → by_frame w x ts s q f ≡ refused_by (number_of r) s q f
+not_heard w ts s q f x t o h r e b a = ap (λ y. by_frame w y ts s q f) e ∙ (b ∙ refused_same o r h s q f a)
+
+pub no_reason : (o : Option Reason) (r : Refusal) → RefusedAs o r → o ≡ None → ⊥
+no_reason None r a e = a
+no_reason (Some x) r a e = cc
 
 pub passed_by_lem : (p : Passed) (before after : Node) (old new frame : List ℕ) (goes : Option Port) → old ≡ [] → PassedBy p before after old new frame goes → HandledBy (passed_as p (whole_of before)) after new frame goes
 passed_by_lem p before after old new frame goes e h =
     record { whole = ap (λ (x : Station). station_of x) h.stays; gives = h.gives ∙ ap (λ z. z ++ p.gives) e; errors = h.errors; left = h.left; port = h.port }
 
--- what was read is what its bytes say
-pub by_reading : (w n : ℕ) (x : Result Told Fault) (ts : List ℕ) (s : Whole) (q : Quota) (f body new frame : List ℕ) (after : Node) (goes : Option Port) → n ≡ s.links.n → body ≡ body_of f → frame_in n body ≡ x →
-    HandledBy (by_frame w x ts s q f) after new frame goes → HandledBy (by_frame w (frame_in s.links.n (body_of f)) ts s q f) after new frame goes
-by_reading w n x ts s q f body new frame after goes en eb ex h =
-    subst (λ y. HandledBy (by_frame w y ts s q f) after new frame goes) (sym ex ∙ ap₂ (λ m z. frame_in m z) en eb) h
-
 -- what was read is one thing only
-pub did_reading : (w n : ℕ) (x t : Told) (ts : List ℕ) (s r : Whole) (f body : List ℕ) → n ≡ s.links.n → body ≡ body_of f → frame_in n body ≡ Ok x → frame_in s.links.n (body_of f) ≡ Ok t → FrameDid w x ts s r → FrameDid w t ts s r
-did_reading w n x t ts s r f body en eb ex et d = subst (λ y. FrameDid w y ts s r) (ok_same x t (sym ex ∙ (ap₂ (λ m z. frame_in m z) en eb ∙ et))) d
+pub did_reading : (w : ℕ) (x : Result Told Fault) (t u : Told) (ts : List ℕ) (s r : Whole) → x ≡ Ok t → x ≡ Ok u → FrameDid w t ts s r → FrameDid w u ts s r
+did_reading w x t u ts s r et eu d = subst (λ y. FrameDid w y ts s r) (ok_same t u (sym et ∙ eu)) d
   where
     ok_same : (a b : Told) → ◌≡◌ {A = Result Told Fault} (Ok a) (Ok b) → a ≡ b
     ok_same a b e = cc
-
-pub no_reading : (n : ℕ) (e : Fault) (t : Told) (m : ℕ) (body f : List ℕ) → n ≡ m → body ≡ f → frame_in n body ≡ Err e → frame_in m f ≡ Ok t → ⊥
-no_reading n e t m body f en eb ex et = let y : frame_in m f ≡ Err e = sym (ap₂ (λ k z. frame_in k z) en eb) ∙ ex in let z : ◌≡◌ {A = ℕ} 0 1 = cc in omega arith
 
 -- a box that stays as it was does nothing
 pub still : (s r : Whole) → s ≡ r → Did s [] r

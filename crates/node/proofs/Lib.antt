@@ -3,3 +3,4 @@ pub mod Steps
 pub mod Ticked
 pub mod Framing
 pub mod Heard
+pub mod Passed

@@ -3,9 +3,9 @@ use Rattle.std.proofs.Common.{◌≡◌, ℕ, zero, suc, ◌≤◌, cond, eqb, L
 use Rattle.std.specs.List.{flat_map}
 use Rattle.octets.specs.Writes.{octets}
 use Rattle.messages.specs.Values.{at, entry_of}
-use Rattle.messages.specs.declared.values.Seens.{Seens}
+use Rattle.messages.specs.Packets.{Seens}
 use Rattle.messages.specs.declared.values.Word.{Word}
-use Rattle.messages.specs.declared.values.Words.{Words}
+use Rattle.messages.specs.Packets.{Words}
 use Rattle.wordframes.specs.Writing.{bytes_of_id, bytes_of_road, bytes_of_seens, bytes_of_word, bytes_of_words, roads_to}
 use Rattle.linkmodel.specs.Station.{Item, Shows, Station as Whole, Tells}
 use Rattle.model.specs.Box.{Box}
@@ -14,9 +14,9 @@ use Rattle.station.specs.Packets.{first_in, seens_of, sight_of}
 use Rattle.station.specs.Ticking.{bundle_of, item_of}
 use Rattle.frames.specs.Writing.{bytes_of_entry, bytes_of_line}
 use Rattle.frames.specs.declared.values.Entry.{Entry}
-use Rattle.frames.specs.declared.values.Line.{Line}
-use Rattle.node.specs.Book.{Note, line_bytes, note_bytes}
-use Rattle.node.specs.Giving.{Full, own_item}
+use Rattle.frames.specs.declared.values.Entry.TheVariants.{Began as BeganEntry, Refused as RefusedEntry, Said as SaidEntry, Taken as TakenEntry}
+use Rattle.node.specs.Book.{line_bytes, note_bytes}
+use Rattle.node.specs.Giving.{Full, noted, own_item}
 use Rattle.node.specs.Hearing.{FullSeens}
 use Rattle.node.specs.Wires.{frame_bytes, item_bytes, roads_of, sight_bytes}
 
@@ -50,8 +50,14 @@ pub seens_as : (p : Seens) → p.count ≤ length p.items → bytes_of_seens p �
 seens_as p h =
     ap₂ (λ (k : ℕ) (z : List ℕ). 3 ∷ (octets 8 p.drawn ++ (k ∷ z))) (sym (first_long sight_of p.count p.items h)) (first_joined sight_of bytes_of_id sight_bytes (λ x. refl) p.count p.items)
 
-pub line_as : (l : Line) (t : ℕ) (e : Entry) (x : Note) → l.tick ≡ t → l.what ≡ e → bytes_of_entry e ≡ note_bytes x → bytes_of_line l ≡ line_bytes t x
-line_as l t e x p q r = ap₂ (λ (k : ℕ) (z : List ℕ). 5 ∷ (octets 4 k ++ z)) p (ap bytes_of_entry q ∙ r)
+pub noted_as : (e : Entry) → bytes_of_entry e ≡ note_bytes (noted e)
+noted_as (BeganEntry n me) = refl
+noted_as (SaidEntry word) = ap (λ z. 1 ∷ z) (word_as word)
+noted_as (TakenEntry word) = ap (λ z. 2 ∷ z) (word_as word)
+noted_as (RefusedEntry number) = refl
+
+pub line_as : (t : ℕ) (e : Entry) → bytes_of_line (record { tick = t; what = e }) ≡ line_bytes t (noted e)
+line_as t e = ap (λ z. 5 ∷ (octets 4 t ++ z)) (noted_as e)
 
 first_short : {A B : Type 0} (f : A → B) (k : ℕ) (xs : List A) → length (first_in f k xs) ≤ length xs
 unfolding first_in

@@ -2,9 +2,9 @@
 use Rattle.std.specs.Prelude.{◌≡◌, ℕ, zero, suc, List, [], ◌∷◌, ◌++◌, length, take, Some, None, Ok, Err, Option, Result, slice_index, slice_index_or}
 use Rattle.std.specs.List.{flat_map}
 use Rattle.octets.specs.declared.Fault.{Fault}
-use Rattle.messages.specs.declared.values.Seens.{Seens}
+use Rattle.messages.specs.Packets.{Seens}
 use Rattle.messages.specs.declared.values.Word.{Word}
-use Rattle.messages.specs.declared.values.Words.{Words}
+use Rattle.messages.specs.Packets.{Words}
 use Rattle.hello.specs.State.{greeting_of}
 use Rattle.router.specs.declared.answers.Outcome.{Outcome}
 use Rattle.router.specs.declared.answers.Outcome.TheVariants.{Taken as WasTaken, Said as WasSaid, Same, Older}
@@ -12,7 +12,7 @@ use Rattle.linkmodel.specs.Links.{hears_hello, relinks}
 use Rattle.linkmodel.specs.Station.{Item, Station as Whole, heard_hello, teller}
 use Rattle.outbox.specs.declared.reading.Port.{Port}
 use Rattle.packets.specs.declared.error_quota.Quota.{Quota}
-use Rattle.frames.specs.Faults.{fault_number}
+use Rattle.octets.specs.Faults.{fault_number}
 use Rattle.frames.specs.Reading.{Told, a_hello, a_packet, some_seen, some_words}
 use Rattle.station.specs.Events.{AnswersDid, Did, WordsDid}
 use Rattle.station.specs.Hearing.{answers_from, outcomes_from, words_from, words_refusal}

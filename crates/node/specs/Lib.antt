@@ -1,6 +1,7 @@
 pub mod Wires
 pub mod Book
 pub mod State
+pub mod Refusals
 pub mod Giving
 pub mod Passing
 pub mod Hearing

@@ -6,12 +6,16 @@ use Rattle.messages.specs.declared.values.Settings.{Settings}
 use Rattle.model.specs.Words.{Ev, Falls}
 use Rattle.linkmodel.specs.Links.{fell, relinks, rewired}
 use Rattle.linkmodel.specs.Station.{Station as Whole, falls, has_costs, station}
-use Rattle.frames.specs.Faults.{fault_number}
+use Rattle.octets.specs.Faults.{fault_number}
 use Rattle.packets.specs.Quotas.{unspent}
-use Rattle.station.specs.State.{begin_refusal, falls_refusal, refusal_number, rewire_refusal}
+use Rattle.station.specs.Events.{Did}
+use Rattle.station.specs.State.{begin_refusal, falls_refusal, refusal_number, rewire_refusal, station_of}
+use Rattle.station.specs.declared.state.Station.{Station}
+use Rattle.node.specs.declared.refusals.Refusal.{Refusal}
 use Rattle.node.specs.declared.state.Node.{Node}
 use Rattle.node.specs.Book.{Began, Refused}
 use Rattle.node.specs.Giving.{if_refused, note_of, refused_gives}
+use Rattle.node.specs.Refusals.{number_of}
 use Rattle.node.specs.State.{whole_of}
 
 -- a line that the box began or fell
@@ -27,10 +31,10 @@ begun_by (Err e) d = Err (fault_number e)
 begun_by (Ok x) d = if_refused (begin_refusal x.boxes x.me d) (λ r. Err (refusal_number r)) (set_up x (station x.boxes x.me d))
 
 -- just that box, no error made yet, and the line; or just that number, and nothing given out
-abbrev pub BegunBy : Result Whole ℕ → Result Node ℕ → List ℕ → Type 0
+abbrev pub BegunBy : Result Whole ℕ → Result Node Refusal → List ℕ → Type 0
 BegunBy (Ok s) (Ok node) new = (whole_of node ≡ s) × (node.quota ≡ unspent) × (new ≡ began_gives s)
-BegunBy (Err k) (Err j) new = (j ≡ k) × (new ≡ [])
-BegunBy (Ok s) (Err j) new = ⊥
+BegunBy (Err k) (Err r) new = (number_of r ≡ k) × (new ≡ [])
+BegunBy (Ok s) (Err r) new = ⊥
 BegunBy (Err k) (Ok node) new = ⊥
 
 -- settings
@@ -56,3 +60,8 @@ settings_did (Ok x) s = if_refused (rewire_refusal x s) (λ r. []) (relinks s.li
 
 abbrev pub fall_did : ℕ → Whole → List Ev
 fall_did d s = if_refused (falls_refusal d) (λ r. []) (Falls s.box.me ∷ relinks s.links (fell d s.links) s.box.n)
+
+-- the state after settings, from s; or a refusal, which leaves it as it was with a line
+abbrev pub RewiredBy : Result Settings Fault → Whole → Result Station Refusal → Type 0
+RewiredBy x s (Ok station) = (station_of station ≡ settings_leave x s) × (settings_give x s ≡ []) × Did s (settings_did x s) (station_of station)
+RewiredBy x s (Err r) = (settings_leave x s ≡ s) × (settings_give x s ≡ note_of s (Refused (number_of r))) × (settings_did x s ≡ [])

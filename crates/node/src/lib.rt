@@ -7,6 +7,7 @@
 mod notes;
 mod parts;
 mod passing;
+mod refusals;
 mod state;
 mod ticking;
 mod turns;
@@ -14,4 +15,5 @@ mod way;
 mod wiring;
 mod words;
 
+pub use refusals::Refusal;
 pub use state::Node;

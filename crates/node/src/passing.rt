@@ -1,181 +1,135 @@
 // A packet passes: it is handed out, handed on or refused.
-ghost use Rattle.std.specs.Prelude.{◌≡◌, ◌+◌, ◌*◌, ◌≤◌, ◌∷◌, ◌++◌, length};
-ghost use Rattle.node.specs.Book.{Refused as RefusedNote};
-ghost use Rattle.node.specs.Giving.{note_of};
+ghost use Rattle.std.specs.Prelude.{◌≡◌, ℕ, ◌≤◌, List, length};
+ghost use Rattle.std.specs.Fn.{FnOnceReturnsAtMut};
+ghost use Rattle.node.specs.Giving.{Added};
 ghost use Rattle.node.specs.Handled.{PassedBy};
-ghost use Rattle.node.specs.Passing.{back_by, echo_back, echo_by, error_gives, framed, onward_by, packet_in, passed, troubled};
+ghost use Rattle.node.specs.Passing.{PassesTo, answered_at, back_to, error_parcel, framed, packet_in, passed, refused_as, troubled};
 ghost use Rattle.node.specs.State.{whole_of};
-ghost use Rattle.outbox.specs.Parcels.{contents, parcel_bytes};
+ghost use Rattle.outbox.specs.Parcels.{HasRoom, contents};
 ghost use Rattle.packets.specs.Errors.{error_of};
-ghost use Rattle.packets.specs.Packet.{box_from, echoed, handed_on};
+ghost use Rattle.packets.specs.Packet.{box_from};
+ghost use Rattle.packets.specs.declared.values.Trouble.{Trouble as AnyTrouble};
 
+use crate::refusals::Refusal;
 use crate::state::Node;
-use crate::way::Way;
 use outbox::{Outbox, Port};
-use packets::{Errand, Refusal, Trouble};
+use packets::{Errand, Trouble};
 
-// The frame of the packet in it: the kind before it, and the sum behind it.
-fn seal_frame(frame: &mut [u8])
-    requires { 5 ≤ length frame.old }
-    ensures { frame.new ≡ framed (packet_in frame.old) }
+// The packet in a frame: without the kind before it and the sum behind it.
+fn packet_in(frame: &[u8]) -> &[u8]
+    requires { 5 ≤ length frame.now }
+    ensures { result.now ≡ packet_in frame.now }
 {
+    &frame[1..frame.len() - 4]
+}
+
+// The packet in a frame is turned into another of its length, and the frame into that one's: the kind before it, and the sum behind it.
+fn turn<F: FnOnce(&mut [u8])>(frame: &mut [u8], turned: F)
+    requires calls { F.IsAlwaysCallable turned }
+    requires long { 5 ≤ length frame.old }
+    ensures { (packet : List ℕ) × FnOnceReturnsAtMut F.FnOnce turned (packet_in frame.old) tt packet × (frame.new ≡ framed packet) }
+{
+    let end = frame.len() - 4;
+    turned(&mut frame[1..end]);
     frame[0] = 4;
     let _ = checksum::crc::write_sum(frame);
-}
-
-// The packet in a frame is handed on.
-fn hand_on(frame: &mut [u8])
-    requires { 5 ≤ length frame.old }
-    ensures { frame.new ≡ framed (handed_on (packet_in frame.old)) }
-{
-    let end = frame.len() - 4;
-    packets::hand_on(&mut frame[1..end]);
-    seal_frame(frame);
-}
-
-// The echo in a frame is answered.
-fn echo_back(frame: &mut [u8])
-    requires { 5 ≤ length frame.old }
-    ensures { frame.new ≡ framed (echoed (packet_in frame.old)) }
-{
-    let end = frame.len() - 4;
-    packets::echo_back(&mut frame[1..end]);
-    seal_frame(frame);
 }
 
 // The source's box in a packet, 0 where it is too short.
 fn source(packet: &[u8]) -> u8
     ensures { result ≡ box_from packet.now }
 {
-    if packet.len() > 13 { packet[13] } else { 0 }
+    packet.get(13).copied().unwrap_or(0)
 }
 
 impl Node {
-    // The error for a packet goes back this way, with a line for the number; with no way there is a line for that alone.
-    fn give_back(&self, way: Way, number: u8, trouble: Trouble, packet: &[u8], out: &mut Outbox)
-        requires { out.old.used + 2 * 857 ≤ 65536 }
-        ensures { contents out.new ≡ contents out.old ++ back_by way number trouble (whole_of self.now) packet.now }
-    {
-        let Way::Over(wire) = way else {
-            self.note_refused(10, out);
-            return;
-        };
-        self.note_refused(number, out);
-        out.give_error(wire, self.station.links().box_number(), trouble, packet);
-    }
-
-    // And to a house of this box.
-    fn hand_back(&self, number: u8, trouble: Trouble, packet: &[u8], out: &mut Outbox)
-        requires { out.old.used + 2 * 857 ≤ 65536 }
-        ensures { contents out.new ≡ contents out.old ++ (note_of (whole_of self.now) (RefusedNote number) ++ parcel_bytes 8 (error_of (whole_of self.now).links.me trouble packet.now)) }
-    {
-        self.note_refused(number, out);
-        out.hand_error(self.station.links().box_number(), trouble, packet);
-    }
-
-    // An error that may be made goes back to the sender of a packet that is refused for a number.
-    fn error_back(&self, number: u8, trouble: Trouble, packet: &[u8], out: &mut Outbox)
-        requires { out.old.used + 2 * 857 ≤ 65536 }
-        ensures { contents out.new ≡ contents out.old ++ error_gives number trouble (whole_of self.now) packet.now }
+    // Where an answer to a packet goes: to a house of this box, or over the wire towards the box that the packet came from.
+    fn back(&self, packet: &[u8]) -> Result<Port, Refusal>
+        ensures { result ≡ back_to packet.now (whole_of self.now) }
     {
         let to = source(packet);
         if to == self.station.links().box_number() {
-            self.hand_back(number, trouble, packet, out);
-        } else {
-            self.give_back(self.way(to), number, trouble, packet, out);
+            return Ok(Port::House);
+        }
+        self.way(to)
+            .map(|wire| Port::Wire(wire))
+            .or(Err(Refusal::Unanswered))
+    }
+
+    // Where the packet in a frame goes, and the frame as it goes on; or why it is refused, and the frame stays.
+    fn send(&self, frame: &mut [u8]) -> Result<Port, Refusal>
+        requires { 5 ≤ length frame.old }
+        ensures { PassesTo result (whole_of self.now) frame.old frame.new }
+    {
+        let links = self.station.links();
+        match packets::errand(links.boxes(), links.box_number(), packet_in(frame))? {
+            Errand::HandOut => Ok(Port::House),
+            Errand::Echo => {
+                let port = self.back(packet_in(frame))?;
+                turn(frame, |packet| packets::echo_back(packet));
+                Ok(port)
+            }
+            Errand::Onward(to) => {
+                let wire = self.way(to)?;
+                turn(frame, |packet| packets::hand_on(packet));
+                Ok(Port::Wire(wire))
+            }
         }
     }
 
-    // A packet is refused for 7, 8 or 9: an error goes back, but none of an error, and at most ten in a second.
-    fn trouble(&mut self, number: u8, trouble: Trouble, packet: &[u8], out: &mut Outbox)
-        requires { out.old.used + 2 * 857 ≤ 65536 }
-        ensures gives { contents out.new ≡ contents out.old ++ (troubled number trouble (whole_of self.old) self.old.quota packet.now).gives }
-        ensures errors { self.new.quota ≡ (troubled number trouble (whole_of self.old) self.old.quota packet.now).errors }
+    // Where the error for a packet goes, and that one more is made: none of an error, and at most ten in a second.
+    fn error_to(&mut self, packet: &[u8]) -> Result<Port, Refusal>
+        ensures is { (k : ℕ) (t : AnyTrouble) → troubled k t (whole_of self.old) self.old.quota packet.now ≡ answered_at result k t (whole_of self.old) self.new.quota packet.now }
         ensures stays { self.new.station ≡ self.old.station }
     {
         if packets::is_error(packet) {
-            self.note_refused(10, out);
-            return;
+            return Err(Refusal::Unanswered);
         }
-        let (quota, granted) = self.quota.grant(self.station.links().now());
-        self.quota = quota;
-        if granted {
-            self.error_back(number, trouble, packet, out);
-        } else {
-            self.note_refused(10, out);
+        let now = self.station.links().now();
+        self.quota = self.quota.grant(now).ok_or(Refusal::Unanswered)?;
+        self.back(packet)
+    }
+
+    // The error for a packet goes to a port: framed over a wire, bare to a house.
+    fn give_error(&self, port: Port, trouble: Trouble, packet: &[u8], out: &mut Outbox)
+        requires { HasRoom 1 out.old }
+        ensures { Added 1 (error_parcel port (error_of (whole_of self.now).links.me trouble packet.now)) out.old out.new }
+    {
+        let me = self.station.links().box_number();
+        match port {
+            Port::Wire(wire) => out.give_error(wire, me, trouble, packet),
+            _ => out.hand_error(me, trouble, packet),
         }
     }
 
-    // A packet for another box goes on this way, or is refused.
-    fn pass_on(&mut self, way: Way, frame: &mut [u8], out: &mut Outbox) -> Option<Port>
-        requires { (out.old.used + 2 * 857 ≤ 65536) × (5 ≤ length frame.old) }
-        ensures { PassedBy (onward_by way (whole_of self.old) self.old.quota frame.old) self.old self.new (contents out.old) (contents out.new) frame.new result }
+    // A packet is refused: a line, and for some refusals an error that goes back.
+    fn refuse(&mut self, refusal: Refusal, packet: &[u8], out: &mut Outbox)
+        requires { HasRoom 2 out.old }
+        ensures gives { Added 2 (refused_as refusal (whole_of self.old) self.old.quota packet.now).gives out.old out.new }
+        ensures errors { self.new.quota ≡ (refused_as refusal (whole_of self.old) self.old.quota packet.now).errors }
+        ensures stays { self.new.station ≡ self.old.station }
     {
-        let end = frame.len() - 4;
-        match way {
-            Way::Over(wire) => {
-                hand_on(frame);
-                Some(Port::Wire(wire))
-            }
-            Way::NoWay => {
-                self.trouble(8, Trouble::Unreachable, &frame[1..end], out);
-                None
-            }
-            Way::Closed => {
-                self.trouble(9, Trouble::Unreachable, &frame[1..end], out);
-                None
-            }
-        }
-    }
-
-    // An echo goes back this way, or is dropped.
-    fn echo_over(&self, way: Way, frame: &mut [u8], out: &mut Outbox) -> Option<Port>
-        requires { (out.old.used + 2 * 857 ≤ 65536) × (5 ≤ length frame.old) }
-        ensures { PassedBy (echo_by way (whole_of self.now) self.now.quota frame.old) self.now self.now (contents out.old) (contents out.new) frame.new result }
-    {
-        let Way::Over(wire) = way else {
-            self.note_refused(10, out);
-            return None;
+        let Some(trouble) = refusal.trouble() else {
+            return self.note_refused(refusal, out);
         };
-        echo_back(frame);
-        Some(Port::Wire(wire))
-    }
-
-    // An echo for the box itself is answered.
-    fn echo(&self, frame: &mut [u8], out: &mut Outbox) -> Option<Port>
-        requires { (out.old.used + 2 * 857 ≤ 65536) × (5 ≤ length frame.old) }
-        ensures { PassedBy (echo_back (whole_of self.now) self.now.quota frame.old) self.now self.now (contents out.old) (contents out.new) frame.new result }
-    {
-        let end = frame.len() - 4;
-        let to = source(&frame[1..end]);
-        if to == self.station.links().box_number() {
-            echo_back(frame);
-            return Some(Port::House);
+        match self.error_to(packet) {
+            Ok(port) => {
+                self.note_refused(refusal, out);
+                self.give_error(port, trouble, packet, out);
+            }
+            Err(why) => self.note_refused(why, out),
         }
-        self.echo_over(self.way(to), frame, out)
     }
 
     // What becomes of the packet in a frame.
     pub(crate) fn pass(&mut self, frame: &mut [u8], out: &mut Outbox) -> Option<Port>
-        requires { (out.old.used + 2 * 857 ≤ 65536) × (5 ≤ length frame.old) }
+        requires { (HasRoom 2 out.old) × (5 ≤ length frame.old) }
         ensures { PassedBy (passed (whole_of self.old) self.old.quota frame.old) self.old self.new (contents out.old) (contents out.new) frame.new result }
     {
-        let links = self.station.links();
-        let end = frame.len() - 4;
-        match packets::errand(links.boxes(), links.box_number(), &frame[1..end]) {
-            Ok(Errand::HandOut) => Some(Port::House),
-            Ok(Errand::Echo) => self.echo(frame, out),
-            Ok(Errand::Onward(to)) => self.pass_on(self.way(to), frame, out),
-            Err(Refusal::Expired) => {
-                self.trouble(7, Trouble::TimeExceeded, &frame[1..end], out);
-                None
-            }
-            Err(Refusal::Address) => {
-                self.note_refused(6, out);
-                None
-            }
-            Err(Refusal::Malformed) => {
-                self.note_refused(5, out);
+        match self.send(frame) {
+            Ok(port) => Some(port),
+            Err(refusal) => {
+                self.refuse(refusal, packet_in(frame), out);
                 None
             }
         }

@@ -3,27 +3,15 @@ ghost use Rattle.std.specs.Prelude.{◌≡◌};
 ghost use Rattle.node.specs.Passing.{way_to};
 ghost use Rattle.node.specs.State.{whole_of};
 
+use crate::refusals::Refusal;
 use crate::state::Node;
-use router::Hop;
-
-// Over a wire; or there is no way; or the road to the next box is closed.
-#[derive(Clone, Copy)]
-pub enum Way {
-    Over(u8),
-    NoWay,
-    Closed,
-}
 
 impl Node {
-    pub(crate) fn way(&self, to: u8) -> Way
+    // The wire of the road to the next box; or there is no way, or that road is closed.
+    pub(crate) fn way(&self, to: u8) -> Result<u8, Refusal>
         ensures { result ≡ way_to to (whole_of self.now) }
     {
-        let Hop::To(next) = self.station.next_box(to) else {
-            return Way::NoWay;
-        };
-        match self.station.open_wire(next) {
-            Some(wire) => Way::Over(wire),
-            None => Way::Closed,
-        }
+        let next = self.station.hands_on(to).ok_or(Refusal::NoWay)?;
+        self.station.open_wire(next).ok_or(Refusal::Closed)
     }
 }

@@ -6,13 +6,27 @@
 ghost use Rattle.std.specs.Prelude.{◌≡◌, ℕ, ◌+◌, ◌^◌, ◌<◌, ◌≤◌, [], ◌∷◌, length, IfOk};
 ghost use Rattle.octets.specs.Writes.{Bytes, octets, put};
 ghost use Rattle.octets.specs.Reads.{with_left, below, byte, end, number, positive};
+ghost use Rattle.octets.specs.Faults.{fault_number};
 
 // Why bytes are refused.
-#[derive(Clone, Copy, Debug, PartialEq)]
+#[derive(Clone, Copy, Debug, PartialEq, Eq)]
 pub enum Fault {
     Form,
     Range,
     Count,
+}
+
+// The number that a fault goes by: 1 for a bad form, 2 for a value out of range, 11 for a count that is too large.
+impl From<Fault> for u8 {
+    ghost from_gives = { λ fault n. n ≡ fault_number fault };
+
+    fn from(fault: Fault) -> u8 {
+        match fault {
+            Fault::Form => 1,
+            Fault::Range => 2,
+            Fault::Count => 11,
+        }
+    }
 }
 
 // What is left to read.
@@ -22,25 +36,16 @@ pub struct Reader<'a> {
 }
 
 impl<'a> Reader<'a> {
-    // The next byte, for whoever also has to know that all that is left are bytes.
-    pub fn first(&mut self) -> Result<u8, Fault>
+    // The next byte; and all that was left are bytes.
+    pub fn byte(&mut self) -> Result<u8, Fault>
         ensures reads { byte self.old.left.now ≡ with_left result self.new.left.now }
         ensures fits { Bytes self.old.left.now }
     {
-        let left = self.left;
-        if left.len() == 0 {
+        let &[first, ref rest @ ..] = self.left else {
             return Err(Fault::Form);
-        }
-        let b = left[0];
-        self.left = &left[1..];
-        Ok(b)
-    }
-
-    // The next byte.
-    pub fn byte(&mut self) -> Result<u8, Fault>
-        ensures { byte self.old.left.now ≡ with_left result self.new.left.now }
-    {
-        self.first()
+        };
+        self.left = rest;
+        Ok(first)
     }
 
     // A number of `width` bytes, high byte first.
@@ -86,12 +91,14 @@ impl<'a> Reader<'a> {
     pub fn end(&mut self) -> Result<(), Fault>
         ensures { end self.old.left.now ≡ with_left result self.new.left.now }
     {
-        if self.left.len() != 0 {
+        if !self.left.is_empty() {
             return Err(Fault::Form);
         }
         Ok(())
     }
 }
+
+// Kept: `out` and `at` stay two parameters here and above. A struct of them holds a `&mut`, and each function that takes it would have to ensure as well that it lends the same bytes.
 
 // Writes `x` as `width` bytes from the place `at` on, high byte first, and gives the place after them.
 pub fn put_number(out: &mut [u8], at: usize, width: usize, x: u64) -> usize
@@ -100,6 +107,7 @@ pub fn put_number(out: &mut [u8], at: usize, width: usize, x: u64) -> usize
     ensures wrote { out.new ≡ put at (octets width x) out.old }
 {
     let mut high = x;
+    // Kept: tried over `out[at..at + width].iter_mut().rev()`; the proof didn't close, since nothing is known of what is written through an adapter of `iter_mut`.
     for i in (0..width).rev() {
         out[at + i] = (high % 256) as u8;
         high /= 256;
@@ -118,14 +126,13 @@ pub fn put_byte(out: &mut [u8], at: usize, b: u8) -> usize
 }
 
 // Writes the bytes from the place `at` on, and gives the place after them.
+#[tactic(auto, using(crate::proofs::Puts::put_part))]
 pub fn put_bytes(out: &mut [u8], at: usize, bytes: &[u8]) -> usize
     requires { at + length bytes.now ≤ length out.old }
     ensures next { result ≡ at + length bytes.now }
     ensures wrote { out.new ≡ put at bytes.now out.old }
 {
-    let mut next = at;
-    for b in bytes {
-        next = put_byte(out, next, *b);
-    }
+    let next = at + bytes.len();
+    out[at..next].copy_from_slice(bytes);
     next
 }

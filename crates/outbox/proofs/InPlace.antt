@@ -7,8 +7,8 @@ use Rattle.octets.specs.Writes.{Wrote, put}
 use Rattle.octets.proofs.Puts.{length_octets}
 use Rattle.messages.specs.declared.values.Hello.{Hello}
 use Rattle.messages.specs.declared.values.Word.{Word}
-use Rattle.messages.specs.declared.values.Words.{Words}
-use Rattle.messages.specs.declared.values.Seens.{Seens}
+use Rattle.messages.specs.Packets.{Words}
+use Rattle.messages.specs.Packets.{Seens}
 use Rattle.wordframes.specs.Writing.{bytes_of_seens, bytes_of_word, bytes_of_words}
 use Rattle.wordframes.proofs.Roads.{length_word, length_words, roads_few}
 use Rattle.wordframes.proofs.Lengths.{length_seens}
@@ -43,6 +43,10 @@ in_place old out bytes u at k h l b w same =
 -- none of these is longer than 850 bytes
 pub hello_long : (h : Hello) → length (bytes_of_hello h) ≡ 18
 hello_long h = simp length-append (omega (arith, length_octets 8 h.drawn, length_octets 8 h.heard))
+
+-- nor what is taken of the front of an error
+pub front_small : (k : ℕ) (xs : List ℕ) → length xs ≡ 56 → length (4 ∷ take k xs) ≤ 850
+front_small k xs l = simp length-take (omega arith)
 
 pub word_small : (w : Word) → length (bytes_of_word w) ≤ 210
 word_small w = omega (arith, length_word w, roads_few w.costs 64)

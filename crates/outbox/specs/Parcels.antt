@@ -1,5 +1,5 @@
 -- Parcels, as they stand one after the other in the buffer. Assumes nothing.
-use Rattle.std.specs.Prelude.{ℕ, ◌+◌, cond, List, ◌∷◌, ◌++◌, length, take, drop, ◌==◌}
+use Rattle.std.specs.Prelude.{ℕ, ◌+◌, ◌*◌, ◌≤◌, cond, List, ◌∷◌, ◌++◌, length, take, drop, ◌==◌}
 use Rattle.std.specs.List.{flat_map}
 use Rattle.octets.specs.Writes.{octets}
 use Rattle.checksum.specs.Crc.{sum_bytes}
@@ -35,6 +35,14 @@ bytes_of_all gs = flat_map bytes_of_given gs
 -- what the buffer holds
 abbrev pub contents : Outbox → List ℕ
 contents o = take o.used o.bytes
+
+-- room for so many parcels, of which the largest, a frame of four words, has 857 bytes with its head and its sum
+abbrev pub HasRoom : ℕ → Outbox → Type 0
+HasRoom k o = o.used + k * 857 ≤ 65536
+
+-- and what they take of it
+abbrev pub UsesAtMost : ℕ → Outbox → Outbox → Type 0
+UsesAtMost k before after = after.used ≤ before.used + k * 857
 
 -- the k bytes behind the place for the next parcel's port and length
 abbrev pub body_in : ℕ → Outbox → List ℕ

@@ -7,5 +7,5 @@ mod giving;
 mod reading;
 mod state;
 
-pub use reading::{Parcel, Port, port_number};
+pub use reading::{Parcel, Port};
 pub use state::Outbox;

@@ -6,7 +6,7 @@ ghost use Rattle.outbox.specs.Taken.{TakenOut};
 use crate::state::Outbox;
 
 // Where a parcel goes: over a wire, to a house, or into the journal.
-#[derive(Clone, Copy)]
+#[derive(Clone, Copy, Debug, PartialEq, Eq)]
 pub enum Port {
     Wire(u8),
     House,
@@ -14,7 +14,7 @@ pub enum Port {
 }
 
 // A parcel, and the place of the next.
-#[derive(Clone, Copy)]
+#[derive(Clone, Copy, Debug, PartialEq, Eq)]
 pub struct Parcel<'a> {
     pub port: Port,
     pub bytes: &'a [u8],
@@ -22,24 +22,28 @@ pub struct Parcel<'a> {
 }
 
 // The number that a port goes by in the buffer.
-pub fn port_number(port: Port) -> u8
-    ensures { result ≡ port_number port }
-{
-    match port {
-        Port::Wire(w) => w,
-        Port::House => 8,
-        Port::Book => 9,
+impl From<Port> for u8 {
+    ghost from_gives = { λ port n. n ≡ port_number port };
+
+    fn from(port: Port) -> u8 {
+        match port {
+            Port::Wire(w) => w,
+            Port::House => 8,
+            Port::Book => 9,
+        }
     }
 }
 
 // The port that goes by a number.
-fn port_of(number: u8) -> Port
-    ensures { result ≡ port_at number }
-{
-    match number {
-        8 => Port::House,
-        9 => Port::Book,
-        w => Port::Wire(w),
+impl From<u8> for Port {
+    ghost from_gives = { λ number port. port ≡ port_at number };
+
+    fn from(number: u8) -> Port {
+        match number {
+            8 => Port::House,
+            9 => Port::Book,
+            w => Port::Wire(w),
+        }
     }
 }
 
@@ -51,12 +55,12 @@ impl Outbox {
         if at >= self.used || self.used - at < 3 {
             return None;
         }
-        let long = usize::from(self.bytes[at + 1]) * 256 + usize::from(self.bytes[at + 2]);
+        let long = usize::from(u16::from_be_bytes([self.bytes[at + 1], self.bytes[at + 2]]));
         if self.used - at - 3 < long {
             return None;
         }
         Some(Parcel {
-            port: port_of(self.bytes[at]),
+            port: Port::from(self.bytes[at]),
             bytes: &self.bytes[at + 3..at + 3 + long],
             next: at + 3 + long,
         })

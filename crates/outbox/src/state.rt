@@ -2,6 +2,7 @@
 ghost use Rattle.std.specs.Prelude.{◌≤◌};
 
 // `bytes`: parcels one after the other, of which the first `used` bytes count.
+// Kept: a running box owns nothing on the heap, so that the parcels stand in an array, with how much of it is used beside it.
 #[derive(Drop)]
 pub struct Outbox {
     pub(crate) bytes: [u8; 65536],

@@ -1,4 +1,5 @@
 // Box 1 of three, with open roads to 0 on wire 0 and to 2 on wire 1, that knows all words; and a packet of 64 bytes from 0 to 2 in its frame.
+use frames::Frame;
 use messages::{Hello, Settings, Word, WordId, Words};
 use node::Node;
 use outbox::Outbox;
@@ -26,50 +27,42 @@ fn word_of(about: u8) -> Word {
     }
 }
 
-// A neighbour's hello and its word come, with their sums.
-fn meet(node: &mut Node, wire: u8, from: u8, out: &mut Outbox) -> Option<()> {
+// A frame comes on a wire, with its sum behind it.
+fn hear(node: &mut Node, wire: u8, frame: Frame, out: &mut Outbox) -> Option<()> {
     let mut bytes = [0u8; 256];
+    let long = frames::write_frame(frame, &mut bytes)?;
+    if long > 252 {
+        return None;
+    }
+    let _ = checksum::crc::write_sum(&mut bytes[..long + 4]);
+    let _ = node.wire(wire, &mut bytes[..long + 4], [0; 4], out);
+    Some(())
+}
+
+// A neighbour's hello and its word come.
+fn meet(node: &mut Node, wire: u8, from: u8, out: &mut Outbox) -> Option<()> {
     let hello = Hello {
         from,
         drawn: 20,
         heard: DRAWN,
     };
-    let long = frames::write_hello(hello, &mut bytes)?;
-    if long > 252 {
-        return None;
-    }
-    let _ = checksum::crc::write_sum(&mut bytes[0..long + 4]);
-    let _ = node.wire(wire, &mut bytes[0..long + 4], [0; 4], out);
     let words = Words {
         drawn: 20,
         count: 1,
         items: [word_of(from); 4],
     };
-    let long = frames::write_words(words, &mut bytes)?;
-    if long > 252 {
-        return None;
-    }
-    let _ = checksum::crc::write_sum(&mut bytes[0..long + 4]);
-    let _ = node.wire(wire, &mut bytes[0..long + 4], [0; 4], out);
-    Some(())
+    hear(node, wire, Frame::Hello(hello), out)?;
+    hear(node, wire, Frame::Words(words), out)
 }
 
 // A packet of 64 bytes from 10.0.0.2 to 10.2.0.2, in its frame.
 fn packet() -> [u8; 69] {
     let mut frame = [0u8; 69];
-    frame[0] = 4;
-    frame[1] = 0x45;
-    frame[4] = 64;
-    frame[9] = 64;
-    frame[10] = 17;
-    frame[13] = 10;
-    frame[16] = 2;
-    frame[17] = 10;
-    frame[18] = 2;
-    frame[20] = 2;
-    let sum = checksum::internet::internet_sum(&frame[1..21]).to_be_bytes();
-    frame[11] = sum[0];
-    frame[12] = sum[1];
+    frame[..21].copy_from_slice(&[
+        4, 0x45, 0, 0, 64, 0, 0, 0, 0, 64, 17, 0, 0, 10, 0, 0, 2, 10, 2, 0, 2,
+    ]);
+    let sum = checksum::internet::internet_sum(&frame[1..21]);
+    frame[11..13].copy_from_slice(&sum.to_be_bytes());
     let _ = checksum::crc::write_sum(&mut frame);
     frame
 }
@@ -83,9 +76,7 @@ impl Setup {
         };
         let mut bytes = [0u8; 19];
         let _ = frames::write_settings(settings, &mut bytes)?;
-        let Ok(mut node) = Node::begin(&bytes, DRAWN, out) else {
-            return None;
-        };
+        let mut node = Node::begin(&bytes, DRAWN, out).ok()?;
         meet(&mut node, 0, 0, out)?;
         meet(&mut node, 1, 2, out)?;
         node.tick(30, out);

@@ -1,5 +1,5 @@
 -- A word written over another, and the sums of a packet's two parts.
-use Rattle.std.proofs.Common.{◌≡◌, ℕ, suc, ◌+◌, ◌-◌, ◌/◌, ◌%◌, ◌<◌, ◌≤◌, List, [], ◌∷◌, ◌++◌, length, get_or, take, drop, set, sym, refl, ap, ◌∙◌, ap₂, zero-add, add-one, arith, length-append, length-drop, length-set, length-take}
+use Rattle.std.proofs.Common.{◌≡◌, ℕ, zero, suc, ◌+◌, ◌-◌, ◌/◌, ◌%◌, ◌<◌, ◌≤◌, List, [], ◌∷◌, ◌++◌, length, take, drop, set, sym, refl, ap, ◌∙◌, ap₂, zero-add, arith, length-append, length-drop, length-set, length-take}
 use borrow.Rule.Slice.PartMut.{put_mid, post_of}
 use Rattle.std.proofs.lemmas.List.{append-nil, drop_all, drop_at, set_comm, set-set, take-append-drop, take_at, take_rest}
 use Rattle.checksum.specs.Internet.{internet_sum, put_word}
@@ -13,19 +13,28 @@ over bytes at x y u v =
     ap (λ z. set z (suc at) v) (set_comm (set bytes at x) (suc at) at y u (omega arith) ∙ ap (λ z. set z (suc at) y) (set-set bytes at x u))
     ∙ set-set (set bytes at u) (suc at) y v
 
+-- two bytes in the place of two others
+put_two : (bytes : List ℕ) (at x y : ℕ) → suc at < length bytes → put_mid at 2 bytes (x ∷ y ∷ []) ≡ set (set bytes at x) (suc at) y
+put_two [] at x y l = absurd (omega arith)
+put_two (a ∷ []) at x y l = absurd (omega arith)
+put_two (a ∷ b ∷ bytes) zero x y l = refl
+put_two (a ∷ b ∷ bytes) (suc at) x y l = ap (λ z. a ∷ z) (put_two (b ∷ bytes) at x y (omega arith))
+
 -- a word as the code writes it
-pub word_as : (bytes : List ℕ) (at w : ℕ) (two : List ℕ) → w < 65536 → two ≡ w / 256 % 256 ∷ w % 256 ∷ [] → set (set bytes at (get_or two 0 0)) (suc at) (get_or two 1 0) ≡ put_word bytes at w
-word_as bytes at w two l e =
+pub word_as : (bytes : List ℕ) (at w : ℕ) (two : List ℕ) → suc at < length bytes → w < 65536 → two ≡ w / 256 % 256 ∷ w % 256 ∷ [] → put_mid at 2 bytes two ≡ put_word bytes at w
+word_as bytes at w two b l e =
     let h : w / 256 % 256 ≡ w / 256 = omega arith in
-    ap₂ (λ x y. set (set bytes at x) (suc at) y) (ap (λ z. get_or z 0 0) e ∙ h) (ap (λ z. get_or z 1 0) e)
+    ap (put_mid at 2 bytes) e ∙ (put_two bytes at (w / 256 % 256) (w % 256) b ∙ ap (λ x. set (set bytes at x) (suc at) (w % 256)) h)
 
 -- the sum put in over two zeros
-pub summed_as : (bytes : List ℕ) (at w : ℕ) (two : List ℕ) → w ≡ internet_sum (set (set bytes at 0) (at + 1) 0) → w < 65536 → two ≡ w / 256 % 256 ∷ w % 256 ∷ []
-    → set (set (set (set bytes at 0) (at + 1) 0) at (get_or two 0 0)) (at + 1) (get_or two 1 0) ≡ summed at bytes
+pub summed_as : (bytes : List ℕ) (at n w : ℕ) (zeros two : List ℕ) → n ≡ 2 → at + 1 < length bytes → zeros ≡ 0 ∷ 0 ∷ [] → w ≡ internet_sum (put_mid at n bytes zeros) → w < 65536
+    → two ≡ w / 256 % 256 ∷ w % 256 ∷ [] → put_mid at n (put_mid at n bytes zeros) two ≡ summed at bytes
 unfolding summed
-summed_as bytes at w two s l e =
-    let z : w ≡ internet_sum (put_word bytes at 0) = rw add-one at s in
-    rw add-one (over bytes at 0 0 (get_or two 0 0) (get_or two 1 0) ∙ (word_as bytes at w two l e ∙ ap (put_word bytes at) z))
+summed_as bytes at n w zeros two m b z s l e =
+    let blank : put_mid at n bytes zeros ≡ put_word bytes at 0 = ap₂ (λ k x. put_mid at k bytes x) m z ∙ put_two bytes at 0 0 (omega arith) in
+    let f : suc at < length (put_word bytes at 0) = simp length-set (omega arith) in
+    ap₂ (λ k x. put_mid at k x two) m blank ∙ (word_as (put_word bytes at 0) at w two f l e
+    ∙ (over bytes at 0 0 (w / 256) (w % 256) ∙ ap (put_word bytes at) (s ∙ ap internet_sum blank)))
 
 pub length_summed : (at : ℕ) (bytes : List ℕ) → length (summed at bytes) ≡ length bytes
 unfolding summed

@@ -1,6 +1,6 @@
 -- How many errors a box makes in one second of ten ticks.
 -- Assumes nothing.
-use Rattle.std.specs.Prelude.{ℕ, ◌+◌, ◌/◌, ◌≤◌, Bool, true, false, cond, ◌&&◌, List, [], ◌∷◌, ◌==◌, nat_lt}
+use Rattle.std.specs.Prelude.{ℕ, ◌+◌, ◌/◌, ◌≤◌, Bool, true, false, cond, ◌&&◌, Some, None, Option, List, [], ◌∷◌, ◌==◌, nat_lt}
 use Rattle.packets.specs.declared.error_quota.Quota.{Quota}
 
 -- nothing was made yet
@@ -13,6 +13,11 @@ granted q tick =
     cond (tick / 10 == q.second)
     (cond (nat_lt q.made 10) (record { second = tick / 10; made = q.made + 1 }, true) (q, false))
     (record { second = tick / 10; made = 1 }, true)
+
+-- what an answer leaves of a quota, and whether it grants the request: none leaves it as it was
+abbrev pub left_of : Quota → Option Quota → Quota × Bool
+left_of q (Some left) = (left, true)
+left_of q None = (q, false)
 
 -- how many of the requests at these ticks are granted and fall into the second s
 abbrev pub grants_in : ℕ → Quota → List ℕ → ℕ

@@ -17,4 +17,4 @@ pub use packet_echo::echo_back;
 pub use packet_errand::errand;
 pub use packet_error::{is_error, write_error};
 pub use packet_hop::hand_on;
-pub use values::{Errand, Refusal, Trouble, refusal_number};
+pub use values::{Errand, Refusal, Trouble};

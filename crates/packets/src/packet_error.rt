@@ -1,7 +1,7 @@
 // ICMP errors: which packets are such, and the one that a refused packet is answered with.
 ghost use Rattle.std.specs.Prelude.{◌≡◌, ◌≤◌, length, slice_index};
 ghost use Rattle.octets.specs.Writes.{Wrote};
-ghost use Rattle.packets.specs.Errors.{error_header, error_of, error_quoting, is_error, is_error_type, trouble_type};
+ghost use Rattle.packets.specs.Errors.{error_header, error_of, error_quoting, is_error, is_error_type};
 ghost use Rattle.packets.specs.Travels.{ErrorGood};
 
 use crate::sums::put_sums;
@@ -11,10 +11,7 @@ use octets::put_bytes;
 fn is_error_type(kind: u8) -> bool
     ensures { result ≡ is_error_type kind }
 {
-    match kind {
-        3 | 4 | 5 | 11 | 12 => true,
-        _ => false,
-    }
+    matches!(kind, 3 | 4 | 5 | 11 | 12)
 }
 
 // Whether it is an ICMP error, of which no error is sent.
@@ -24,20 +21,11 @@ pub fn is_error(packet: &[u8]) -> bool
     packet.len() > 20 && packet[9] == 1 && is_error_type(packet[20])
 }
 
-fn trouble_type(trouble: Trouble) -> u8
-    ensures { result ≡ trouble_type trouble }
-{
-    match trouble {
-        Trouble::TimeExceeded => 11,
-        Trouble::Unreachable => 3,
-    }
-}
-
 // The byte at a place, and 0 past the end.
 fn byte_at(bytes: &[u8], i: usize) -> u8
     ensures { result ≡ slice_index bytes.now i }
 {
-    if i < bytes.len() { bytes[i] } else { 0 }
+    bytes.get(i).copied().unwrap_or(0)
 }
 
 // The header of an error that quotes these bytes, with no sum yet.
@@ -67,7 +55,7 @@ fn put_error(me: u8, trouble: Trouble, quoted: &[u8], out: &mut [u8]) -> Option<
         return None;
     }
     let at = put_bytes(out, 0, &error_header(me, quoted));
-    let at = put_bytes(out, at, &[trouble_type(trouble), 0, 0, 0, 0, 0, 0, 0]);
+    let at = put_bytes(out, at, &[u8::from(trouble), 0, 0, 0, 0, 0, 0, 0]);
     put_bytes(out, at, quoted);
     put_sums(&mut out[0..length]);
     Some(length)
@@ -78,8 +66,6 @@ pub fn write_error(me: u8, trouble: Trouble, packet: &[u8], out: &mut [u8]) -> O
     ensures wrote { Wrote (error_of me trouble packet.now) out.old result out.new }
     ensures good { ErrorGood me packet.now (error_of me trouble packet.now) }
 {
-    if packet.len() > 28 {
-        return put_error(me, trouble, &packet[0..28], out);
-    }
-    put_error(me, trouble, packet, out)
+    let quoted = packet.len().min(28);
+    put_error(me, trouble, &packet[..quoted], out)
 }

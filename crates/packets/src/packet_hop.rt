@@ -13,10 +13,9 @@ fn fall(header: &mut [u8])
 {
     let sum = u16::from_be_bytes([header[10], header[11]]);
     let old = u16::from_be_bytes([header[8], header[9]]);
-    let [high, low] = mended(sum, old, old - 256).to_be_bytes();
+    let sum = mended(sum, old, old - 256).to_be_bytes();
     header[8] -= 1;
-    header[10] = high;
-    header[11] = low;
+    header[10..12].copy_from_slice(&sum);
 }
 
 // The packet as it goes on to the next box.

@@ -16,11 +16,9 @@ fn put_sum(bytes: &mut [u8], at: usize)
     requires { at + 1 < length bytes.old }
     ensures { bytes.new ≡ summed at bytes.old }
 {
-    bytes[at] = 0;
-    bytes[at + 1] = 0;
-    let [high, low] = internet_sum(bytes).to_be_bytes();
-    bytes[at] = high;
-    bytes[at + 1] = low;
+    bytes[at..at + 2].fill(0);
+    let sum = internet_sum(bytes).to_be_bytes();
+    bytes[at..at + 2].copy_from_slice(&sum);
 }
 
 // Puts the sum of the header and that of the ICMP message after it.

@@ -1,9 +1,10 @@
 // What a packet is for, why one is refused, and what an error says.
 ghost use Rattle.std.specs.Prelude.{◌≡◌};
 ghost use Rattle.packets.specs.Errands.{refusal_number};
+ghost use Rattle.packets.specs.Errors.{trouble_type};
 
 // Hand it out to the house, answer its echo, or send it on towards another box.
-#[derive(Clone, Copy)]
+#[derive(Clone, Copy, Debug, PartialEq, Eq)]
 pub enum Errand {
     HandOut,
     Echo,
@@ -11,26 +12,40 @@ pub enum Errand {
 }
 
 // It is no right packet, an address is of no box there is, or its time to live is over.
-#[derive(Clone, Copy)]
+#[derive(Clone, Copy, Debug, PartialEq, Eq)]
 pub enum Refusal {
     Malformed,
     Address,
     Expired,
 }
 
-#[derive(Clone, Copy)]
+#[derive(Clone, Copy, Debug, PartialEq, Eq)]
 pub enum Trouble {
     TimeExceeded,
     Unreachable,
 }
 
 // The number that a refusal goes by.
-pub fn refusal_number(refusal: Refusal) -> u8
-    ensures { result ≡ refusal_number refusal }
-{
-    match refusal {
-        Refusal::Malformed => 5,
-        Refusal::Address => 6,
-        Refusal::Expired => 7,
+impl From<Refusal> for u8 {
+    ghost from_gives = { λ refusal n. n ≡ refusal_number refusal };
+
+    fn from(refusal: Refusal) -> u8 {
+        match refusal {
+            Refusal::Malformed => 5,
+            Refusal::Address => 6,
+            Refusal::Expired => 7,
+        }
+    }
+}
+
+// The ICMP type of an error.
+impl From<Trouble> for u8 {
+    ghost from_gives = { λ trouble n. n ≡ trouble_type trouble };
+
+    fn from(trouble: Trouble) -> u8 {
+        match trouble {
+            Trouble::TimeExceeded => 11,
+            Trouble::Unreachable => 3,
+        }
     }
 }

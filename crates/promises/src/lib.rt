@@ -17,82 +17,64 @@ ghost use Rattle.model.specs.Ways.{ByAnyRank, ByAnyPolicy, HopPicks, AgreeOnClos
 pub use wires::{agreeing, hellos, relinking, shown, telling, whole_boxes};
 
 // The promise of the whole: at rest every packet arrives over a cheapest way in fewer steps than there are boxes, or is refused where it was sent; few words bring rest from every state in which both ends of each road agree; however words go by rule, only so many are new to anybody, and when none is, that is rest.
-pub fn whole() -> u8
+pub fn whole()
     ensures { Main }
-{
-    0
-}
+{}
 
 // The distance that a map gives is the least cost of any way, of whatever length, and some way has it.
-pub fn least() -> u8
+pub fn least()
     ensures { Least }
-{
-    0
-}
+{}
 
 // Packets arrive by any policy that picks a neighbour on a least way, and the lowest such neighbour is one; walks end by any rank that falls; maps that agree on a part that no road leaves have there the same ways.
-pub fn forwarding() -> u8
+pub fn forwarding()
     ensures policy { ByAnyPolicy }
     ensures lowest { HopPicks }
     ensures rank { ByAnyRank }
     ensures agree { AgreeOnClosed }
-{
-    0
-}
+{}
 
 // Nobody has of a box what it did not say: the same count and tag are the same word, one tag is one word of one box, and each word was so at some moment.
-pub fn words_are_true() -> u8
+pub fn words_are_true()
     ensures same { SameWords }
     ensures tag { OneTag }
     ensures own { OwnWords }
-{
-    0
-}
+{}
 
 // What is known of a box never gets older, unless who knows it falls.
-pub fn onward() -> u8
+pub fn onward()
     ensures { Onward }
-{
-    0
-}
+{}
 
 // At rest each box's map gives the real distances, and the real next boxes from everything that can be reached.
-pub fn maps_are_true() -> u8
+pub fn maps_are_true()
     ensures distances { MapTrue }
     ensures hops { HopsTrue }
-{
-    0
-}
+{}
 
 // From every state in which both ends of each road agree few words bring rest, and nobody says one that is already so; while it isn't rest, two events by rule bring something new.
-pub fn rest_is_near() -> u8
+pub fn rest_is_near()
     ensures few { ComesToRest }
     ensures by_rule { RestsByRule }
     ensures progress { Progress }
-{
-    0
-}
+{}
 
 // However words go by rule, only so many are new to anybody; when none is, that is rest, and there is a test of it.
-pub fn news_end() -> u8
+pub fn news_end()
     ensures ends { Ends }
     ensures sooner { EndsSooner }
     ensures quiet { QuietIsRest }
     ensures test { RestTest }
-{
-    0
-}
+{}
 
 // In every run by rule that is cut into fair stretches all but so many of them end at rest, and an endless one cannot fail to be at rest from some moment on.
-pub fn fair_runs_settle() -> u8
+pub fn fair_runs_settle()
     ensures counted { Settles }
     ensures at_last { SettlesAtLast }
-{
-    0
-}
+{}
 
 // All that is promised of how words spread holds whatever a word says, subject by subject.
-pub fn flooding<P>() -> u8
+pub fn flooding<P>()
     ensures tag { OneTagFor P }
     ensures spoken { SpokenFor P }
     ensures onward { OnwardFor P }
@@ -103,38 +85,28 @@ pub fn flooding<P>() -> u8
     ensures progress { ProgressFor P }
     ensures counted { SettlesFor P }
     ensures at_last { SettlesAtLastFor P }
-{
-    0
-}
+{}
 
 // Words about roads are an instance of that: what is said is what roads cost, each box speaks for its own number, and a fall keeps nothing.
-pub fn roads_are_an_instance() -> u8
+pub fn roads_are_an_instance()
     ensures { RoadsAreAnInstance }
-{
-    0
-}
+{}
 
 // The worked cases, as rows of one table.
-pub fn worked_cases() -> u8
+pub fn worked_cases()
     ensures { CasesHold }
-{
-    0
-}
+{}
 
 // The calls of a box are the code that is asked for, event by event, and what must be shown is shown; taking a word, a fall and a tick do the events that they should.
-pub fn calls_of_a_box() -> u8
+pub fn calls_of_a_box()
     ensures code { BoxIsCode }
     ensures takes { TakesSo }
     ensures falls { FallSo }
     ensures ticks { TickSo }
-{
-    0
-}
+{}
 
 // Boxes driven by any events with fresh tags stand after these; and whatever boxes stand, at rest they hand every packet on to where it goes at the least cost, or refuse it where it was sent.
-pub fn nets_of_boxes() -> u8
+pub fn nets_of_boxes()
     ensures stand { EveryBoxStands }
     ensures deliver { BoxesDeliver }
-{
-    0
-}
+{}

@@ -7,44 +7,36 @@ ghost use Rattle.linkmodel.specs.Telling.{SeenShows, WordShows, TakenShows, Show
 ghost use Rattle.linkmodel.specs.Wired.{ShownMeans};
 
 // A wire is open just when the last hello taken on it fits; and if a has its road to e open under a drawn number of e, then e, in that life, heard a in this life of a, whatever was lost, repeated, late or out of order.
-pub fn hellos() -> u8
+pub fn hellos()
     ensures just { OpenJustWhen }
     ensures means { OpenMeans }
-{
-    0
-}
+{}
 
 // If of any three hellos in a row one arrives, each within two ticks, both ends hold the wire open after 104 ticks, or 64 if no third box held it, and go on to; if one direction carries none, neither end does after 83.
-pub fn agreeing() -> u8
+pub fn agreeing()
     ensures both { BothOpen }
     ensures sooner { BothOpenSooner }
     ensures neither { NeitherOpen }
     ensures possible { CanAgree }
-{
-    0
-}
+{}
 
 // Changed links do to a box just the events of its roads, one by one.
-pub fn relinking() -> u8
+pub fn relinking()
     ensures stands { RelinkSo }
     ensures steps { RelinkOneByOne }
-{
-    0
-}
+{}
 
 // What shown means in every run of boxes on wires that lose, repeat, delay and reorder anything: e has that word or a newer one, as long as the number last heard of e is the one that it has.
-pub fn shown() -> u8
+pub fn shown()
     ensures means { ShownMeans }
     ensures seen { SeenShows }
     ensures word { WordShows }
     ensures taken { TakenShows }
     ensures stays { ShownStays }
-{
-    0
-}
+{}
 
 // Over a road that stays open nothing starves, four words at a time, lowest first; and where all is shown only hellos go.
-pub fn telling() -> u8
+pub fn telling()
     ensures round { RoundTrip }
     ensures starves { NothingStarves }
     ensures told { AllTold }
@@ -52,12 +44,10 @@ pub fn telling() -> u8
     ensures only { OnlyHellos }
     ensures tick { QuietTick }
     ensures net { QuietNet }
-{
-    0
-}
+{}
 
 // Each thing that a whole box does is a list of the model's events: hellos, new costs, falls, ticks and telling, packets of words and their answers, and packets of seens.
-pub fn whole_boxes() -> u8
+pub fn whole_boxes()
     ensures hello { HelloSo }
     ensures costs { CostsSo }
     ensures falls { FallsSo }
@@ -66,6 +56,4 @@ pub fn whole_boxes() -> u8
     ensures words { WordsSo }
     ensures answers { AnswersSo }
     ensures seens { SeensSo }
-{
-    0
-}
+{}

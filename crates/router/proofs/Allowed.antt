@@ -1,10 +1,13 @@
 -- What a call that isn't refused may count on.
 use Rattle.std.proofs.Common.{◌≡◌, ℕ, Bool, true, false, cond, not, ◌&&◌, ◌||◌, eqb, ltb, leb, Some, None, Option, refl, ap, ◌∙◌, arith}
+use Rattle.std.proofs.lemmas.Bool.Decides.{nat_tests}
 use Rattle.model.specs.Box.{Box, is_open}
 use Rattle.router.specs.declared.answers.Refusal.{Refusal}
 use Rattle.router.specs.declared.answers.Refusal.TheVariants.{OutOfRange}
 use Rattle.router.specs.State.{open_below, road_refusal}
-use Rattle.router.proofs.Laws.{eqb_comm}
+
+eqb_comm : (a b : ℕ) → eqb a b ≡ eqb b a
+eqb_comm a b = grind (arith, nat_tests)
 
 -- a road goes to another box that there is
 pub road_allowed : (e c : ℕ) (s : Box) → road_refusal e c s ≡ None → (ltb e s.n && not (eqb s.me e)) ≡ true

@@ -1,6 +1,7 @@
 -- What the state and the answers of a box stand for in the model. Assumes nothing.
-use Rattle.std.specs.Prelude.{◌≡◌, ℕ, zero, suc, ◌+◌, ◌^◌, Bool, cond, not, ◌&&◌, ◌||◌, [], Some, None, Ok, Err, Option, Result, ◌==◌, nat_le, nat_lt, slice_index_or}
+use Rattle.std.specs.Prelude.{ℕ, zero, suc, ◌+◌, ◌^◌, Bool, cond, not, ◌&&◌, ◌||◌, [], Some, None, Option, ◌==◌, nat_le, nat_lt, slice_index_or}
 use Rattle.bits.specs.Bits.{bit}
+pub use Rattle.messages.specs.Refusals.{RefusedBy}
 use Rattle.messages.specs.Values.{at, entry_of, told_by}
 use Rattle.messages.specs.declared.values.Word.{Word}
 use Rattle.messages.specs.declared.values.WordId.{WordId}
@@ -8,18 +9,11 @@ use Rattle.model.specs.Box.{Box, is_open, is_new_to}
 use Rattle.model.specs.Code.{same_word}
 use Rattle.model.specs.Map.{Hop as Next}
 use Rattle.model.specs.Map.{Nowhere as NoNext, To as Onto}
-use Rattle.router.specs.declared.answers.Hop.{Hop}
-use Rattle.router.specs.declared.answers.Hop.TheVariants.{Nowhere, To}
 use Rattle.router.specs.declared.answers.Outcome.{Outcome}
 use Rattle.router.specs.declared.answers.Outcome.TheVariants.{Taken, Said, Same, Older}
 use Rattle.router.specs.declared.answers.Refusal.{Refusal}
 use Rattle.router.specs.declared.answers.Refusal.TheVariants.{OutOfRange, NoRoad, CountSpent}
 use Rattle.router.specs.declared.state.Router.{Router}
-
--- an answer is refused exactly where there is a reason, and for that reason
-abbrev pub RefusedBy : {A : Type 0} → Option Refusal → Result A Refusal → Type 0
-RefusedBy why (Ok x) = why ≡ None
-RefusedBy why (Err e) = why ≡ Some e
 
 -- why n boxes, of which this is number me, are refused: none, more than 64, or no such number
 abbrev pub begin_refusal : ℕ → ℕ → Option Refusal
@@ -32,9 +26,9 @@ refusal_number NoRoad = 3
 refusal_number CountSpent = 11
 
 -- the next box as the model has it
-abbrev pub hop_of : Hop → Next
-hop_of Nowhere = NoNext
-hop_of (To e) = Onto e
+abbrev pub hop_of : Option ℕ → Next
+hop_of None = NoNext
+hop_of (Some e) = Onto e
 
 -- the box of the model that a state stands for
 abbrev pub box_of : Router → Box

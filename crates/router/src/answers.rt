@@ -2,15 +2,8 @@
 ghost use Rattle.router.specs.State.{refusal_number};
 ghost use Rattle.std.specs.Prelude.{◌≡◌};
 
-// The next box towards another.
-#[derive(Clone, Copy)]
-pub enum Hop {
-    Nowhere,
-    To(u8),
-}
-
 // What became of a word that was told.
-#[derive(Clone, Copy)]
+#[derive(Clone, Copy, Debug, PartialEq, Eq)]
 pub enum Outcome {
     // It was newer, and is taken.
     Taken,
@@ -23,7 +16,7 @@ pub enum Outcome {
 }
 
 // Why a call is refused; nothing has changed then.
-#[derive(Clone, Copy)]
+#[derive(Clone, Copy, Debug, PartialEq, Eq)]
 pub enum Refusal {
     // A box of n or more, a road to itself, a ninth road, a count of 0.
     OutOfRange,
@@ -34,12 +27,14 @@ pub enum Refusal {
 }
 
 // The number of each refusal.
-pub fn refusal_number(refusal: Refusal) -> u8
-    ensures { result ≡ refusal_number refusal }
-{
-    match refusal {
-        Refusal::OutOfRange => 2,
-        Refusal::NoRoad => 3,
-        Refusal::CountSpent => 11,
+impl From<Refusal> for u8 {
+    ghost from_gives = { λ r n. n ≡ refusal_number r };
+
+    fn from(refusal: Refusal) -> u8 {
+        match refusal {
+            Refusal::OutOfRange => 2,
+            Refusal::NoRoad => 3,
+            Refusal::CountSpent => 11,
+        }
     }
 }

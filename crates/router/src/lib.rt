@@ -12,6 +12,6 @@ mod told;
 mod ways_on;
 mod words;
 
-pub use answers::{Hop, Outcome, Refusal, refusal_number};
+pub use answers::{Outcome, Refusal};
 pub use state::Router;
 pub use ways_on::hop_at;

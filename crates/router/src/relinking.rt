@@ -11,25 +11,29 @@ impl Router {
     pub fn cost(self, to: u8) -> u16
         ensures { result ≡ (box_of self).cost to }
     {
-        if to < 64 { self.links[to as usize] } else { 0 }
+        self.links.get(usize::from(to)).copied().unwrap_or(0)
     }
 
-    // These costs, but for the box itself and numbers of no box.
+    // The cost of a road, but 0 for the box itself and for a number of no box.
+    fn road_from(self, to: u8, cost: u16) -> u16
+        ensures { result ≡ road_to (λ _. cost) (box_of self) to }
+    {
+        if to < self.n && to != self.me {
+            cost
+        } else {
+            0
+        }
+    }
+
+    // The same for each box.
     fn roads_from(self, links: [u16; 64]) -> [u16; 64]
         ensures { (e : ℕ) → e < 64 → at result e ≡ road_to (at links) (box_of self) e }
     {
-        let mut costs = [0u16; 64];
-        for e in 0u8..64 {
-            if e < self.n && e != self.me {
-                costs[e as usize] = links[e as usize];
-            }
-        }
-        costs
+        std::array::from_fn(|e| self.road_from(e as u8, links[e]))
     }
 
     // What a box has still shown over a road that now costs this much; who is heard anew may have fallen, and has shown nothing yet.
     fn kept_shown(self, to: u8, cost: u16, anew: u64) -> u64
-        requires { to < 64 }
         ensures { (i : ℕ) → bit result i ≡ still_shown (λ _. cost) (bit anew) (box_of self) to i }
     {
         if bits::has_bit(anew, to) {
@@ -43,22 +47,17 @@ impl Router {
     fn all_kept(self, costs: [u16; 64], anew: u64) -> [u64; 64]
         ensures { (e : ℕ) → e < 64 → (i : ℕ) → bit (at result e) i ≡ still_shown (at costs) (bit anew) (box_of self) e i }
     {
-        let mut left = [0u64; 64];
-        for e in 0u8..64 {
-            left[e as usize] = self.kept_shown(e, costs[e as usize], anew);
-        }
-        left
+        std::array::from_fn(|e| self.kept_shown(e as u8, costs[e], anew))
     }
 
     // The roads cost this much from now on; those to the boxes in `anew` opened anew, if they are open.
-    pub fn relink(self, links: [u16; 64], anew: u64) -> Router
+    pub fn relink(mut self, links: [u16; 64], anew: u64) -> Router
         ensures { box_of result ≡ relink_to (at links) (bit anew) (box_of self) }
     {
         let costs = self.roads_from(links);
         let shown = self.all_kept(costs, anew);
-        let mut next = self;
-        next.links = costs;
-        next.shown = shown;
-        next
+        self.links = costs;
+        self.shown = shown;
+        self
     }
 }

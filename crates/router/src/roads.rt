@@ -71,58 +71,49 @@ impl Router {
     pub fn is_open(self, to: u8) -> bool
         ensures { result ≡ is_open to (box_of self) }
     {
-        to < 64 && self.links[to as usize] > 0
+        self.cost(to) > 0
     }
 
     // How many of its roads are open.
     fn open_roads(self) -> u8
         ensures { result ≡ open_below 64 (box_of self) }
     {
-        let mut count = 0u8;
-        for e in 0u8..64 {
-            if self.links[e as usize] > 0 {
-                count += 1;
-            }
-        }
-        count
+        self.links.iter().filter(|cost| **cost > 0).count() as u8
     }
 
-    fn road_refusal(self, to: u8, cost: u16) -> Option<Refusal>
-        ensures { result ≡ road_refusal to cost (box_of self) }
+    // Refuses a road to itself or to a number of no box, and a ninth road.
+    fn allows_road(self, to: u8, cost: u16) -> Result<(), Refusal>
+        ensures { RefusedBy (road_refusal to cost (box_of self)) result }
     {
         if to >= self.n || to == self.me {
-            return Some(Refusal::OutOfRange);
+            return Err(Refusal::OutOfRange);
         }
         if cost > 0 && !self.is_open(to) && self.open_roads() >= 8 {
-            return Some(Refusal::OutOfRange);
+            return Err(Refusal::OutOfRange);
         }
-        None
+        Ok(())
     }
 
     // What a box has shown over a road whose cost is now this one: it is forgotten unless the road was open and still is, since who opens it anew may have fallen.
     pub(crate) fn still_shown(self, to: u8, cost: u16) -> u64
-        requires { to < 64 }
         ensures { (i : ℕ) → bit result i ≡ (is_open to (box_of self) && (nat_lt 0 cost && (box_of self).shown to i)) }
     {
-        if cost > 0 && self.links[to as usize] > 0 {
-            self.shown[to as usize]
+        if cost > 0 && self.is_open(to) {
+            self.shown_by(to)
         } else {
             0
         }
     }
 
     // The road to a box opens, closes (the cost is 0) or changes its cost.
-    pub fn road(self, to: u8, cost: u16) -> Result<Router, Refusal>
+    pub fn road(mut self, to: u8, cost: u16) -> Result<Router, Refusal>
         ensures refused { RefusedBy (road_refusal to cost (box_of self)) result }
         ensures is { IfOk result (λ s. box_of s ≡ road_is to cost (box_of self)) }
         ensures so { IfOk result (λ s. (es : List Ev) → Stands (box_of self) es → Stands (box_of s) (Road self.me to cost ∷ es)) }
     {
-        if let Some(refusal) = self.road_refusal(to, cost) {
-            return Err(refusal);
-        }
-        let mut next = self;
-        next.shown[to as usize] = self.still_shown(to, cost);
-        next.links[to as usize] = cost;
-        Ok(next)
+        self.allows_road(to, cost)?;
+        self.shown[to as usize] = self.still_shown(to, cost);
+        self.links[to as usize] = cost;
+        Ok(self)
     }
 }

@@ -3,7 +3,8 @@ ghost use Rattle.std.specs.Prelude.{◌<◌, ◌≤◌};
 
 // `links`: what the road to each box costs from here, 0 if none is open. `counts`, `tags`, `costs`: the newest word of each box, count 0 for none.
 // `shown`: for each neighbour, a bit for each box of which it has shown that it has the same word.
-#[derive(Clone, Copy)]
+// Kept: counts, tags and costs are arrays of their own, since `ways` is lent them as slices, as its C interface has them.
+#[derive(Clone, Copy, Debug, PartialEq, Eq)]
 pub struct Router {
     pub(crate) n: u8,
     pub(crate) me: u8,

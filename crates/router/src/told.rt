@@ -16,7 +16,7 @@ impl Router {
     pub fn shown_by(self, by: u8) -> u64
         ensures { (i : ℕ) → bit result i ≡ (box_of self).shown by i }
     {
-        if by < 64 { self.shown[by as usize] } else { 0 }
+        self.shown.get(usize::from(by)).copied().unwrap_or(0)
     }
 
     // Whether a neighbour has shown that it has the same word of a box.
@@ -26,33 +26,31 @@ impl Router {
         bits::has_bit(self.shown_by(by), about)
     }
 
-    // Why a word, or a seen, of these numbers is refused that `from` tells.
-    fn id_refusal(self, from: u8, id: WordId) -> Option<Refusal>
-        ensures { result ≡ id_refusal from id (box_of self) }
+    // Refuses some numbers of a word, or of a seen, that `from` tells.
+    fn allows_id(self, from: u8, id: WordId) -> Result<(), Refusal>
+        ensures { RefusedBy (id_refusal from id (box_of self)) result }
     {
         if from >= self.n || id.about >= self.n || id.count == 0 {
-            return Some(Refusal::OutOfRange);
+            return Err(Refusal::OutOfRange);
         }
         if !self.is_open(from) {
-            return Some(Refusal::NoRoad);
+            return Err(Refusal::NoRoad);
         }
-        if id.count >= 1 << 63 {
-            Some(Refusal::CountSpent)
-        } else {
-            None
+        if !id.is_counted() {
+            return Err(Refusal::CountSpent);
         }
+        Ok(())
     }
 
     // Marks that a neighbour has the word of these numbers, if the road to it is open and the box has just that word.
-    fn marked(self, from: u8, id: WordId) -> Router
+    fn marked(mut self, from: u8, id: WordId) -> Router
         requires { (from < 64) × (id.about < 64) }
         ensures { box_of result ≡ sees from id.about id.count id.tag (box_of self) }
     {
-        let mut next = self;
         if self.is_open(from) && self.id_of(id.about).is_same_as(id) {
-            next.shown[from as usize] = bits::with_bit(self.shown[from as usize], id.about);
+            self.shown[from as usize] = bits::with_bit(self.shown[from as usize], id.about);
         }
-        next
+        self
     }
 
     // A neighbour shows that it has the word of these numbers.
@@ -61,10 +59,8 @@ impl Router {
         ensures is { IfOk result (λ s. box_of s ≡ sees from id.about id.count id.tag (box_of self)) }
         ensures so { IfOk result (λ s. (es : List Ev) → Stands (box_of self) es → Stands (box_of s) es) }
     {
-        match self.id_refusal(from, id) {
-            Some(refusal) => Err(refusal),
-            None => Ok(self.marked(from, id)),
-        }
+        self.allows_id(from, id)?;
+        Ok(self.marked(from, id))
     }
 
     // What becomes of a word that `from` tells.
@@ -86,18 +82,16 @@ impl Router {
         }
     }
 
-    // Why a word is refused that `from` tells: as its numbers are, and also if the box would have to say a count of 2^63.
-    fn word_refusal(self, from: u8, word: Word) -> Option<Refusal>
-        ensures { result ≡ hears_refusal from word (box_of self) }
+    // Refuses a word that `from` tells as its numbers, and also if the box would have to say a count of 2^63.
+    fn allows_word(self, from: u8, word: Word) -> Result<(), Refusal>
+        ensures { RefusedBy (hears_refusal from word (box_of self)) result }
     {
-        if let Some(refusal) = self.id_refusal(from, word.id) {
-            return Some(refusal);
-        }
+        self.allows_id(from, word.id)?;
         let spent = word.id.count >= (1 << 63) - 1;
-        match self.outcome(from, word) {
-            Outcome::Said if spent => Some(Refusal::CountSpent),
-            _ => None,
+        if spent && self.outcome(from, word) == Outcome::Said {
+            return Err(Refusal::CountSpent);
         }
+        Ok(())
     }
 
     // A word comes: a newer one is taken, but about itself the box says anew, above it.
@@ -108,7 +102,7 @@ impl Router {
     {
         let outcome = self.outcome(from, word);
         let router = match outcome {
-            Outcome::Taken => self.has(word.id.about, word.id.count, word.id.tag, word.costs),
+            Outcome::Taken => self.has(word),
             Outcome::Said => self.says_above(word.id.count, tag),
             Outcome::Same | Outcome::Older => self,
         };
@@ -122,10 +116,8 @@ impl Router {
         ensures outcome { IfOk result (λ p. p.1 ≡ outcome_of from word (box_of self)) }
         ensures so { IfOk result (λ p. (es : List Ev) (i : ℕ) → Stands (box_of self) es → nth_is i (told_by from self.me word) (world self.n es).flight → is_in tag (world self.n es).drawn ≡ false → Stands (box_of p.0) (Comes i tag ∷ es)) }
     {
-        match self.word_refusal(from, word) {
-            Some(refusal) => Err(refusal),
-            None => Ok(self.taken(from, word, tag)),
-        }
+        self.allows_word(from, word)?;
+        Ok(self.taken(from, word, tag))
     }
 
     // A word comes, and who tells it has shown that it has it.
@@ -135,12 +127,7 @@ impl Router {
         ensures outcome { IfOk result (λ p. p.1 ≡ outcome_of from word (box_of self)) }
         ensures so { IfOk result (λ p. (es : List Ev) (i : ℕ) → Stands (box_of self) es → nth_is i (told_by from self.me word) (world self.n es).flight → is_in tag (world self.n es).drawn ≡ false → Stands (box_of p.0) (Comes i tag ∷ es)) }
     {
-        match self.word_refusal(from, word) {
-            Some(refusal) => Err(refusal),
-            None => {
-                let (router, outcome) = self.taken(from, word, tag);
-                Ok((router.marked(from, word.id), outcome))
-            }
-        }
+        let (router, outcome) = self.takes(from, word, tag)?;
+        Ok((router.marked(from, word.id), outcome))
     }
 }

@@ -5,19 +5,14 @@ ghost use Rattle.router.specs.State.{box_of, hop_of};
 ghost use Rattle.ways.specs.Numbers.{hop_of as hopBy};
 ghost use Rattle.ways.specs.Table.{Found};
 
-use crate::answers::Hop;
 use crate::state::Router;
 use ways::Words;
 
-// The next box that a table's number stands for.
-pub fn hop_at(next: u8) -> Hop
+// The next box that a table's number stands for, if it stands for one.
+pub fn hop_at(next: u8) -> Option<u8>
     ensures { hop_of result ≡ hopBy next }
 {
-    if next == ways::NONE {
-        Hop::Nowhere
-    } else {
-        Hop::To(next)
-    }
+    (next != ways::NONE).then_some(next)
 }
 
 impl Router {
@@ -25,27 +20,24 @@ impl Router {
     pub fn tables(self) -> ([u32; 64], [u8; 64])
         ensures { Found (map_in (box_of self)) self.me result.0 result.1 }
     {
-        let counts = self.counts;
-        let tags = self.tags;
-        let costs = self.costs;
         let mut far = [0u32; 64];
         let mut next = [0u8; 64];
         let words = Words {
-            counts: &counts,
-            tags: &tags,
-            costs: &costs,
+            counts: &self.counts,
+            tags: &self.tags,
+            costs: &self.costs,
         };
         let _ = ways::least_ways(self.n, self.me, words, &mut far, &mut next);
         (far, next)
     }
 
-    // The next box towards another; nowhere if there is no way, to itself, and to a number of no box.
-    pub fn hands_on(self, to: u8) -> Hop
+    // The next box towards another; none if there is no way, to itself, and to a number of no box.
+    pub fn hands_on(self, to: u8) -> Option<u8>
         ensures inside { to < self.n → hop_of result ≡ hop_in to (box_of self) }
-        ensures beyond { self.n ≤ to → result ≡ Hop.Nowhere }
+        ensures beyond { self.n ≤ to → result ≡ None }
     {
         if to >= self.n {
-            return Hop::Nowhere;
+            return None;
         }
         let (_, next) = self.tables();
         hop_at(next[to as usize])

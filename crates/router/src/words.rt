@@ -14,25 +14,23 @@ use messages::{Word, WordId};
 fn cleared(shown: [u64; 64], i: u8) -> [u64; 64]
     ensures { (e j : ℕ) → bit (at result e) j ≡ (not (j == i) && bit (at shown e) j) }
 {
-    let mut left = shown;
-    for e in 0..64 {
-        left[e] = bits::without_bit(left[e], i);
-    }
-    left
+    shown.map(|row| bits::without_bit(row, i))
 }
 
 impl Router {
-    // From now on it has this word of i, which nobody has shown yet.
-    pub(crate) fn has(self, i: u8, count: u64, tag: u64, costs: [u16; 64]) -> Router
-        requires { i < 64 }
-        ensures { box_of result ≡ has i (record { number = count; tag = tag; road = at costs }) (box_of self) }
+    // From now on it has this word, which nobody has shown yet.
+    pub(crate) fn has(mut self, word: Word) -> Router
+        requires { word.id.about < 64 }
+        ensures { box_of result ≡ has word.id.about (entry_of word) (box_of self) }
     {
-        let mut next = self;
-        next.counts[i as usize] = count;
-        next.tags[i as usize] = tag;
-        next.costs[i as usize] = costs;
-        next.shown = cleared(self.shown, i);
-        next
+        let about = usize::from(word.id.about);
+        self.counts[about] = word.id.count;
+        self.tags[about] = word.id.tag;
+        let costs = word.costs;
+        self.costs[about] = costs;
+        let shown = cleared(self.shown, word.id.about);
+        self.shown = shown;
+        self
     }
 
     // It says a word of itself whose count is one above this one.
@@ -40,7 +38,13 @@ impl Router {
         requires { count < 2 ^ 63 }
         ensures { box_of result ≡ has self.me (own_word count tag (box_of self)) (box_of self) }
     {
-        self.has(self.me, count + 1, tag, self.links)
+        let id = WordId {
+            about: self.me,
+            count: count + 1,
+            tag,
+        };
+        let costs = self.links;
+        self.has(Word { id, costs })
     }
 
     // Whether what it has said of its road to x is so; with no road open it need have said nothing.
@@ -57,12 +61,7 @@ impl Router {
     pub fn owes(self) -> bool
         ensures { result ≡ must_say (box_of self) }
     {
-        for x in 0..self.n {
-            if !self.said_so(x) {
-                return true;
-            }
-        }
-        false
+        (0..self.n).any(|x| !self.said_so(x))
     }
 
     // Whether its count leaves room for the next.
@@ -89,17 +88,11 @@ impl Router {
     pub fn id_of(self, about: u8) -> WordId
         ensures { result ≡ record { about = about; count = ((box_of self).word about).number; tag = ((box_of self).word about).tag } }
     {
-        if about >= 64 {
-            return WordId {
-                about,
-                count: 0,
-                tag: 0,
-            };
-        }
+        let place = usize::from(about);
         WordId {
             about,
-            count: self.counts[about as usize],
-            tag: self.tags[about as usize],
+            count: self.counts.get(place).copied().unwrap_or(0),
+            tag: self.tags.get(place).copied().unwrap_or(0),
         }
     }
 
@@ -122,12 +115,8 @@ impl Router {
     pub fn had(self) -> u64
         ensures { (i : ℕ) → bit result i ≡ (nat_lt i self.n && nat_lt 0 ((box_of self).word i).number) }
     {
-        let mut had = 0u64;
-        for i in 0..self.n {
-            if self.counts[i as usize] > 0 {
-                had = bits::with_bit(had, i);
-            }
-        }
-        had
+        (0..self.n)
+            .filter(|i| self.counts[usize::from(*i)] > 0)
+            .fold(0, |had, i| bits::with_bit(had, i))
     }
 }

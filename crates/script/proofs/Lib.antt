@@ -1,4 +1,3 @@
 pub mod Lines
 pub mod Spaced
 pub mod Back
-pub mod Range

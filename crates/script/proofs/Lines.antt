@@ -1,29 +1,51 @@
 -- Laws of the parts of a line: where the first blank stands, one part more, and the number that digits write.
-use Rattle.std.proofs.Common.{◌≡◌, ℕ, zero, suc, ◌+◌, ◌-◌, ◌*◌, ◌<◌, ◌≤◌, Bool, true, false, cond, eqb, leb, List, [], ◌∷◌, length, get_or, take, drop, Some, None, Decides, sym, refl, ap, ◌∙◌, inl, inr, suc-le-suc, add-one, arith, drop-cons}
+use Rattle.std.proofs.Common.{◌≡◌, ℕ, zero, suc, ◌+◌, ◌-◌, ◌*◌, ◌<◌, ◌≤◌, Bool, true, false, cond, eqb, leb, ltb, List, [], ◌∷◌, length, get_or, take, drop, Some, None, Option, sym, refl, ap, ◌∙◌, inl, inr, add-one, arith, drop-cons}
 use lib.Seq.{take-nil}
-use Rattle.std.proofs.lemmas.Bool.{eq-eqb, ne_eqb, le-leb, lt-leb, cond-true, cond-false, cond_both, cases_Bool, false≢true}
-use Rattle.std.specs.Str.{bytes_eq}
-use Rattle.std.proofs.lemmas.Slice.Eq.{bytes_eq-Decides}
-use Rattle.std.proofs.lemmas.List.{drop_all}
+use Rattle.std.specs.List.{position, position_or_len}
+use Rattle.std.specs.Prelude.{count_by}
+use Rattle.std.proofs.lemmas.Bool.{le-leb, lt-leb, cond-true, cond-false, cond_both, cases_Bool, ltb-false}
+use Rattle.std.proofs.lemmas.List.{drop_all, take_all}
+use Rattle.std.proofs.lemmas.List.Sums.{sum_by-cons}
 use Rattle.script.specs.Line.{before, behind, part_of, parts_of, digits_of, is_digit, at_most, number_of}
 
--- the first blank stands at i: what is before it
-pub before_at : (s : List ℕ) (i : ℕ) → i ≤ length s → ((k : ℕ) → k < i → get_or s k 0 ≡ 32 → ⊥) → (i < length s → get_or s i 0 ≡ 32) → before s ≡ take i s
-unfolding before
-before_at [] i h first found = sym (take-nil i)
-before_at (b ∷ s) zero h first found = cond-true (eqb b 32) [] (b ∷ before s) (eq-eqb b 32 (found (omega arith)))
-before_at (b ∷ s) (suc i) h first found =
-    cond-false (eqb b 32) [] (b ∷ before s) (ne_eqb b 32 (first 0 (omega arith))) ∙
-    ap (λ t. b ∷ t) (before_at s i (omega arith) (λ k l e. first (suc k) (suc-le-suc l) e) (λ l. found (suc-le-suc l)))
+abbrev pub is_blank : ℕ → Bool
+is_blank b = eqb b 32
 
--- and what is behind it
-pub behind_at : (s : List ℕ) (i : ℕ) → i ≤ length s → ((k : ℕ) → k < i → get_or s k 0 ≡ 32 → ⊥) → (i < length s → get_or s i 0 ≡ 32) → behind s ≡ drop (suc i) s
+-- the first blank: what is before it and what is behind it
+before_len : (s : List ℕ) → before s ≡ take (position_or_len is_blank s) s
+unfolding before
+before_len [] = sym (take-nil (position_or_len is_blank []))
+before_len (b ∷ s) = elim (cases_Bool (eqb b 32)) [
+  | inl e ↦ rw e refl
+  | inr e ↦ let l : 1 + position_or_len is_blank s ≡ suc (position_or_len is_blank s) = omega arith in rw (e, l) (ap (λ t. b ∷ t) (before_len s))
+]
+
+behind_len : (s : List ℕ) → behind s ≡ drop (suc (position_or_len is_blank s)) s
 unfolding behind
-behind_at [] i h first found = refl
-behind_at (b ∷ s) zero h first found = cond-true (eqb b 32) s (behind s) (eq-eqb b 32 (found (omega arith)))
-behind_at (b ∷ s) (suc i) h first found =
-    cond-false (eqb b 32) s (behind s) (ne_eqb b 32 (first 0 (omega arith))) ∙
-    behind_at s i (omega arith) (λ k l e. first (suc k) (suc-le-suc l) e) (λ l. found (suc-le-suc l))
+behind_len [] = refl
+behind_len (b ∷ s) = elim (cases_Bool (eqb b 32)) [
+  | inl e ↦ rw e refl
+  | inr e ↦ let l : 1 + position_or_len is_blank s ≡ suc (position_or_len is_blank s) = omega arith in rw (e, l) (behind_len s)
+]
+
+-- what is found stands at that place, and where nothing is found the list ends first
+found_at : (n l i : ℕ) → cond (ltb n l) (Some n) None ≡ Some i → n ≡ i
+found_at n l i h = elim (cases_Bool (ltb n l)) [ inl e ↦ let f : ◌≡◌ {A = Option ℕ} (Some n) (Some i) = rw e at h in cc | inr e ↦ let f : ◌≡◌ {A = Option ℕ} None (Some i) = rw e at h in cc ]
+
+none_at : (n l : ℕ) → cond (ltb n l) (Some n) None ≡ None → l ≤ n
+none_at n l h = elim (cases_Bool (ltb n l)) [ inl e ↦ let f : ◌≡◌ {A = Option ℕ} (Some n) None = rw e at h in cc | inr e ↦ ltb-false n l e ]
+
+pub before_at : (s : List ℕ) (i : ℕ) → position is_blank s ≡ Some i → before s ≡ take i s
+before_at s i h = before_len s ∙ ap (λ k. take k s) (found_at (position_or_len is_blank s) (length s) i h)
+
+pub behind_at : (s : List ℕ) (i : ℕ) → position is_blank s ≡ Some i → behind s ≡ drop (suc i) s
+behind_at s i h = behind_len s ∙ ap (λ k. drop (suc k) s) (found_at (position_or_len is_blank s) (length s) i h)
+
+pub before_none : (s : List ℕ) → position is_blank s ≡ None → before s ≡ s
+before_none s h = before_len s ∙ take_all (position_or_len is_blank s) s (none_at (position_or_len is_blank s) (length s) h)
+
+pub behind_none : (s : List ℕ) → position is_blank s ≡ None → behind s ≡ []
+behind_none s h = let l = none_at (position_or_len is_blank s) (length s) h in behind_len s ∙ drop_all (suc (position_or_len is_blank s)) s (omega arith)
 
 -- one blank less to skip
 pub part_more : (k : ℕ) (s : List ℕ) → 0 < k → part_of k s ≡ part_of (k - 1) (behind s)
@@ -35,14 +57,11 @@ pub part_none : (s : List ℕ) → part_of 0 s ≡ before s
 unfolding part_of
 part_none s = refl
 
--- one byte more counted
-pub parts_more : (s : List ℕ) (i : ℕ) → i < length s → parts_of (drop i s) ≡ parts_of (drop (i + 1) s) + cond (eqb (get_or s i 0) 32) 1 0
+-- one part more than there are blanks
+pub parts_counted : (s : List ℕ) → parts_of s ≡ count_by is_blank s + 1
 unfolding parts_of
-parts_more s i h = rw (add-one, drop-cons s i 0 h) refl
-
-pub parts_none : parts_of [] ≡ 1
-unfolding parts_of
-parts_none = refl
+parts_counted [] = refl
+parts_counted (b ∷ s) = omega (arith, parts_counted s, sum_by-cons (λ x. cond (is_blank x) 1 0) b s)
 
 pub digits_none : (n : ℕ) → digits_of n [] ≡ Some n
 unfolding digits_of
@@ -83,8 +102,3 @@ number_past most n s i h past so_far = number_is most s h ∙ ap (λ o. at_most 
 pub number_ends : (most n : ℕ) (s : List ℕ) (i : ℕ) → 0 < length s → length s ≤ i → n ≤ most → digits_of 0 s ≡ digits_of n (drop i s) → number_of most s ≡ Some n
 number_ends most n s i h end fits so_far =
     number_is most s h ∙ ap (λ o. at_most most o) (so_far ∙ ap (λ t. digits_of n t) (drop_all i s end) ∙ digits_none n) ∙ cond-true (leb n most) (Some n) None (le-leb n most fits)
-
--- a test that decides whether two texts are one is `sameBytes`
-pub same_is : (xs ys : List ℕ) (r : Bool) → Decides r (xs ≡ ys) → r ≡ bytes_eq xs ys
-same_is xs ys true h = sym ((bytes_eq-Decides xs ys).1 (h.0 refl))
-same_is xs ys false h = elim (cases_Bool (bytes_eq xs ys)) [ inl e ↦ absurd (false≢true (h.1 ((bytes_eq-Decides xs ys).0 e))) | inr e ↦ sym e ]

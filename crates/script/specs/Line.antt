@@ -1,5 +1,5 @@
 -- How a line of a script is read, byte by byte. Assumes nothing.
-use Rattle.std.specs.Prelude.{ℕ, zero, suc, ◌+◌, ◌-◌, ◌*◌, Bool, cond, not, ◌&&◌, ◌||◌, List, [], ◌∷◌, Some, None, Ok, Err, codes, Option, Result, ◌==◌, nat_le}
+use Rattle.std.specs.Prelude.{◌≡◌, ℕ, zero, suc, ◌+◌, ◌-◌, ◌*◌, Bool, cond, not, ◌&&◌, ◌||◌, List, [], ◌∷◌, Some, None, Ok, Err, codes, Option, Result, ◌==◌, nat_le}
 use Rattle.std.specs.Str.{bytes_eq}
 use Rattle.script.specs.declared.command.Command.{Command}
 use Rattle.script.specs.declared.command.Command.TheVariants.{Boxes, Road, Fall, Lose, Tick, Send}
@@ -46,6 +46,11 @@ at_most most (Some n) = cond (nat_le n most) (Some n) None
 abbrev pub number_of : ℕ → List ℕ → Option ℕ
 number_of most [] = None
 number_of most (b ∷ bs) = at_most most (digits_of 0 (b ∷ bs))
+
+-- a number, or the refusal where there is none
+abbrev pub Gives : Option ℕ → Result ℕ Fault → Type 0
+Gives o (Ok n) = o ≡ Some n
+Gives o (Err e) = (o ≡ None) × (e ≡ Form)
 
 -- go on with the number, or refuse
 abbrev pub given : Option ℕ → (ℕ → Result Command Fault) → Result Command Fault

@@ -2,7 +2,7 @@
 ghost use Rattle.std.specs.Prelude.{◌≡◌};
 ghost use Rattle.script.specs.Line.{number_of_fault};
 
-#[derive(Clone, Copy)]
+#[derive(Clone, Copy, Debug, PartialEq, Eq)]
 pub enum Command {
     // `boxes N`: a new net of N boxes.
     Boxes(u8),
@@ -18,17 +18,19 @@ pub enum Command {
     Send(u8, u8),
 }
 
-#[derive(Clone, Copy)]
+#[derive(Clone, Copy, Debug, PartialEq, Eq)]
 pub enum Fault {
     // The line has none of the forms, or a number in it is out of range.
     Form,
 }
 
 // The number by which a refusal is printed.
-pub fn fault_number(fault: Fault) -> u8
-    ensures { result ≡ number_of_fault fault }
-{
-    match fault {
-        Fault::Form => 1,
+impl From<Fault> for u8 {
+    ghost from_gives = { λ fault n. n ≡ number_of_fault fault };
+
+    fn from(fault: Fault) -> u8 {
+        match fault {
+            Fault::Form => 1,
+        }
     }
 }

@@ -9,7 +9,7 @@ mod command;
 mod line;
 mod text;
 
-pub use command::{Command, Fault, fault_number};
+pub use command::{Command, Fault};
 pub use line::read;
 pub use text::write;
 
@@ -44,9 +44,7 @@ mod tests {
             ("send 2 2", "send 2 2"),
         ];
         for (line, again) in lines {
-            let Ok(command) = read(line.as_bytes()) else {
-                return Err(Fail::new(line));
-            };
+            let command = read(line.as_bytes())?;
             let text = write(rt.alloc(), command)?;
             assert_eq!(rt; text.as_str(), again);
         }
@@ -94,6 +92,6 @@ mod tests {
         for line in lines {
             assert!(rt; matches!(read(line), Err(Fault::Form)));
         }
-        assert_eq!(rt; fault_number(Fault::Form), 1);
+        assert_eq!(rt; u8::from(Fault::Form), 1);
     }
 }

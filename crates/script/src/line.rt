@@ -1,6 +1,6 @@
 // Reads a line of a script.
-ghost use Rattle.std.specs.Prelude.{◌≡◌, ℕ, ◌<◌, ◌≤◌, length, IfSome, IfOk, ◌≢◌, slice_index};
-ghost use Rattle.script.specs.Line.{before, behind, part_of, parts_of, number_of, has_form, boxes_in, road_in, fall_in, lose_in, tick_in, send_in, command_in};
+ghost use Rattle.std.specs.Prelude.{◌≡◌, ◌≤◌, ◌==◌, IfOk, position};
+ghost use Rattle.script.specs.Line.{Gives, before, behind, part_of, parts_of, number_of, boxes_in, road_in, fall_in, lose_in, tick_in, send_in, command_in};
 ghost use Rattle.script.specs.Written.{CanBe};
 
 use super::command::{Command, Fault};
@@ -8,36 +8,30 @@ use super::command::{Command, Fault};
 // One of these, and nothing else, stands between two parts.
 const BLANK: u8 = b' ';
 
-// Where the first blank stands, or the length where there is none.
-fn first_blank(text: &[u8]) -> usize
-    ensures within { result ≤ length text.now }
-    ensures first { (k : ℕ) → k < result → slice_index text.now k ≢ 32 }
-    ensures found { result < length text.now → slice_index text.now result ≡ 32 }
+// Where the first blank stands, if there is one.
+fn first_blank(text: &[u8]) -> Option<usize>
+    ensures { result ≡ position (λ b. b == 32) text.now }
 {
-    for (i, b) in text.iter().enumerate() {
-        if *b == BLANK {
-            return i;
-        }
-    }
-    text.len()
+    text.iter().position(|b| *b == BLANK)
 }
 
 // The part of `text` before its first blank.
 fn before_blank(text: &[u8]) -> &[u8]
     ensures { result.now ≡ before text.now }
 {
-    &text[0..first_blank(text)]
+    match first_blank(text) {
+        Some(at) => &text[..at],
+        None => text,
+    }
 }
 
 // The part of `text` behind its first blank.
 fn behind_blank(text: &[u8]) -> &[u8]
     ensures { result.now ≡ behind text.now }
 {
-    let at = first_blank(text);
-    if at < text.len() {
-        &text[at + 1..]
-    } else {
-        &text[at..]
+    match first_blank(text) {
+        Some(at) => &text[at + 1..],
+        None => &[],
     }
 }
 
@@ -56,74 +50,49 @@ fn part(text: &[u8], skip: u8) -> &[u8]
 fn parts(text: &[u8]) -> usize
     ensures { result ≡ parts_of text.now }
 {
-    let mut count = 1;
-    for b in text {
-        if *b == BLANK {
-            count += 1;
-        }
-    }
-    count
+    text.iter().filter(|b| **b == BLANK).count() + 1
 }
 
 // The number that `text` writes in digits, if there is nothing else and it is at most `most`.
-fn number(text: &[u8], most: u32) -> Option<u32>
-    ensures value { result ≡ number_of most text.now }
-    ensures within { IfSome result (λ n. n ≤ most) }
+fn number(text: &[u8], most: u32) -> Result<u32, Fault>
+    ensures value { Gives (number_of most text.now) result }
+    ensures within { IfOk result (λ n. n ≤ most) }
 {
     if text.is_empty() {
-        return None;
+        return Err(Fault::Form);
     }
     let mut n: u32 = 0;
     for b in text {
         if !b.is_ascii_digit() {
-            return None;
+            return Err(Fault::Form);
         }
         let next = n as u64 * 10 + (*b - b'0') as u64;
         if next > most as u64 {
-            return None;
+            return Err(Fault::Form);
         }
         n = next as u32;
     }
-    Some(n)
-}
-
-// Whether the line has the form of this word with so many parts.
-fn has_form(line: &[u8], word: &[u8], count: usize) -> bool
-    ensures { result ≡ has_form line.now word.now count }
-{
-    part(line, 0) == word && parts(line) == count
+    Ok(n)
 }
 
 // `boxes N`, 1 to 64 of them.
 fn boxes(line: &[u8]) -> Result<Command, Fault>
     ensures { result ≡ boxes_in line.now }
 {
-    let Some(n) = number(part(line, 1), 64) else {
+    let Ok(n @ 1..=64) = number(part(line, 1), 64) else {
         return Err(Fault::Form);
     };
-    if n == 0 {
-        Err(Fault::Form)
-    } else {
-        Ok(Command::Boxes(n as u8))
-    }
+    Ok(Command::Boxes(n as u8))
 }
 
 // `road A E COST BACK`, between two boxes; both costs are 0, or neither is.
 fn road(line: &[u8]) -> Result<Command, Fault>
     ensures { result ≡ road_in line.now }
 {
-    let Some(a) = number(part(line, 1), 63) else {
-        return Err(Fault::Form);
-    };
-    let Some(e) = number(part(line, 2), 63) else {
-        return Err(Fault::Form);
-    };
-    let Some(cost) = number(part(line, 3), 65535) else {
-        return Err(Fault::Form);
-    };
-    let Some(back) = number(part(line, 4), 65535) else {
-        return Err(Fault::Form);
-    };
+    let a = number(part(line, 1), 63)?;
+    let e = number(part(line, 2), 63)?;
+    let cost = number(part(line, 3), 65535)?;
+    let back = number(part(line, 4), 65535)?;
     if a == e || (cost == 0) != (back == 0) {
         return Err(Fault::Form);
     }
@@ -134,9 +103,7 @@ fn road(line: &[u8]) -> Result<Command, Fault>
 fn fall(line: &[u8]) -> Result<Command, Fault>
     ensures { result ≡ fall_in line.now }
 {
-    let Some(a) = number(part(line, 1), 63) else {
-        return Err(Fault::Form);
-    };
+    let a = number(part(line, 1), 63)?;
     Ok(Command::Fall(a as u8))
 }
 
@@ -144,15 +111,9 @@ fn fall(line: &[u8]) -> Result<Command, Fault>
 fn lose(line: &[u8]) -> Result<Command, Fault>
     ensures { result ≡ lose_in line.now }
 {
-    let Some(a) = number(part(line, 1), 63) else {
-        return Err(Fault::Form);
-    };
-    let Some(e) = number(part(line, 2), 63) else {
-        return Err(Fault::Form);
-    };
-    let Some(n) = number(part(line, 3), u32::MAX) else {
-        return Err(Fault::Form);
-    };
+    let a = number(part(line, 1), 63)?;
+    let e = number(part(line, 2), 63)?;
+    let n = number(part(line, 3), u32::MAX)?;
     Ok(Command::Lose(a as u8, e as u8, n))
 }
 
@@ -160,9 +121,7 @@ fn lose(line: &[u8]) -> Result<Command, Fault>
 fn tick(line: &[u8]) -> Result<Command, Fault>
     ensures { result ≡ tick_in line.now }
 {
-    let Some(n) = number(part(line, 1), u32::MAX) else {
-        return Err(Fault::Form);
-    };
+    let n = number(part(line, 1), u32::MAX)?;
     Ok(Command::Tick(n))
 }
 
@@ -170,12 +129,8 @@ fn tick(line: &[u8]) -> Result<Command, Fault>
 fn send(line: &[u8]) -> Result<Command, Fault>
     ensures { result ≡ send_in line.now }
 {
-    let Some(a) = number(part(line, 1), 63) else {
-        return Err(Fault::Form);
-    };
-    let Some(e) = number(part(line, 2), 63) else {
-        return Err(Fault::Form);
-    };
+    let a = number(part(line, 1), 63)?;
+    let e = number(part(line, 2), 63)?;
     Ok(Command::Send(a as u8, e as u8))
 }
 
@@ -184,19 +139,13 @@ pub fn read(line: &[u8]) -> Result<Command, Fault>
     ensures command { result ≡ command_in line.now }
     ensures in_range { IfOk result CanBe }
 {
-    if has_form(line, b"boxes", 2) {
-        boxes(line)
-    } else if has_form(line, b"road", 5) {
-        road(line)
-    } else if has_form(line, b"fall", 2) {
-        fall(line)
-    } else if has_form(line, b"lose", 4) {
-        lose(line)
-    } else if has_form(line, b"tick", 2) {
-        tick(line)
-    } else if has_form(line, b"send", 3) {
-        send(line)
-    } else {
-        Err(Fault::Form)
+    match (part(line, 0), parts(line)) {
+        (b"boxes", 2) => boxes(line),
+        (b"road", 5) => road(line),
+        (b"fall", 2) => fall(line),
+        (b"lose", 4) => lose(line),
+        (b"tick", 2) => tick(line),
+        (b"send", 3) => send(line),
+        _ => Err(Fault::Form),
     }
 }

@@ -1,18 +1,16 @@
 -- What is answered, one after the other.
-use Rattle.std.proofs.Common.{◌≡◌, ℕ, zero, suc, ◌+◌, ◌-◌, ◌<◌, ◌≤◌, Bool, true, false, cond, not, ◌||◌, eqb, ltb, ◌≢◌, List, [], ◌∷◌, ◌++◌, length, get_or, drop, set, sym, refl, ap, ◌∙◌, subst, append_assoc, append-nil, le_of_suc-le-suc, not-suc-le-zero, add-one, arith, length-set, get_or-set_other, ltb-true}
+use Rattle.std.proofs.Common.{◌≡◌, ℕ, zero, suc, ◌+◌, ◌<◌, ◌≤◌, Bool, true, false, cond, not, ◌||◌, eqb, ltb, ◌≢◌, List, [], ◌∷◌, ◌++◌, length, get_or, map, drop, set, sym, refl, ap, ◌∙◌, subst, append_assoc, append-nil, le_of_suc-le-suc, not-suc-le-zero, add-one, arith, length-set, get_or-set_other, ltb-false, ltb-true}
+use lib.ListN.{get_or-eq_default}
 use Rattle.messages.specs.Values.{entry_of}
 use Rattle.messages.specs.declared.values.Word.{Word}
-use Rattle.messages.specs.declared.values.WordId.{WordId}
 use Rattle.model.specs.Box.{Box}
 use Rattle.model.specs.Code.{same_word}
 use Rattle.model.specs.Words.{newer}
 use Rattle.linkmodel.specs.Station.{Item, Sight, news_for, seens_for}
-use Rattle.station.specs.Packets.{any_in, first_in, is_out, no_id, sight_of}
-use Rattle.station.specs.Ticking.{words_in}
-use Rattle.messages.specs.declared.values.Seens.{Seens}
-use Rattle.station.specs.Hearing.{Showing, ids_of}
-use Rattle.station.proofs.Scans.{next_item, none_here, none_later, none_more, one_more}
-use Rattle.station.proofs.TakingWords.{any_word, ids_at, ids_length}
+use Rattle.station.specs.Packets.{first_in, is_out, sight_of}
+use Rattle.station.specs.Ticking.{item_of}
+use Rattle.station.proofs.Scans.{NonePass, next_item, none_here, none_left}
+use Rattle.station.proofs.TakingWords.{any_word}
 
 -- one more is put behind the first c
 put_at : {A B : Type 0} (f : A → B) (xs : List A) (c : ℕ) (x : A) → c < length xs → first_in f (suc c) (set xs c x) ≡ first_in f c xs ++ (f x ∷ [])
@@ -33,6 +31,14 @@ pub record PutTo {A B : Type 0} (f : A → B) (d : A) (all left : List B) (k c :
   pub few : c ≤ k
   pub list : all ≡ first_in f c xs ++ left
   pub blank : (j : ℕ) → c ≤ j → get_or xs j d ≡ d
+
+-- past its end a list of blanks is blank
+pub rest_blank : {A : Type 0} (xs : List A) (d : A) → length xs ≡ 4 → ((j : ℕ) → j < 4 → get_or xs j d ≡ d) → (j : ℕ) → get_or xs j d ≡ d
+rest_blank xs d l h j = go (ltb j 4) refl
+  where
+    go : (b : Bool) → ltb j 4 ≡ b → get_or xs j d ≡ d
+    go true q = h j (ltb-true j 4 q)
+    go false q = get_or-eq_default xs d (rw l (ltb-false j 4 q))
 
 module _ {A B : Type 0} (f : A → B) (d : A) (all : List B) where
   pub put_none : (left : List B) (xs : List A) → length xs ≡ 4 → ((j : ℕ) → get_or xs j d ≡ d) → all ≡ left → PutTo f d all left 0 0 xs
@@ -69,56 +75,35 @@ module _ {A B : Type 0} (f : A → B) (d : A) (all : List B) where
       sym (first_length f c xs (omega (arith, p.room))) ∙ ap (λ (ys : List B). length ys) (put_list left k c xs p q)
 
 -- what is left of the answers after k words
-abbrev pub seens_left : ℕ → ℕ → List Word → Box → List Sight
-seens_left n k xs b = seens_for (words_in (n - k) (drop k xs)) b
+abbrev pub seens_left : ℕ → List Word → Box → List Sight
+seens_left k ws b = seens_for (map item_of (drop k ws)) b
 
-abbrev pub news_left : ℕ → ℕ → List Word → Box → List Item
-news_left n k xs b = news_for (words_in (n - k) (drop k xs)) b
+abbrev pub news_left : ℕ → List Word → Box → List Item
+news_left k ws b = news_for (map item_of (drop k ws)) b
 
-pub seens_step : (n k : ℕ) (xs : List Word) (b : Box) → length xs ≡ 4 → n ≤ 4 → k < n →
-    seens_left n k xs b ≡ cond (same_word (entry_of (get_or xs k any_word)) (b.word (get_or xs k any_word).id.about)) (sight_of (get_or xs k any_word).id ∷ seens_left n (k + 1) xs b) (seens_left n (k + 1) xs b)
-unfolding first_in seens_for
-seens_step n k xs b l few h =
-    ap (λ (i : ℕ). seens_for (words_in i (drop k xs)) b) (one_more n k h) ∙ ap (λ (ys : List Word). seens_for (words_in (suc (n - (k + 1))) ys) b) (next_item any_word xs k 4 l (omega arith))
+pub seens_step : (k : ℕ) (ws : List Word) (b : Box) → k < length ws →
+    seens_left k ws b ≡ cond (same_word (entry_of (get_or ws k any_word)) (b.word (get_or ws k any_word).id.about)) (sight_of (get_or ws k any_word).id ∷ seens_left (k + 1) ws b) (seens_left (k + 1) ws b)
+unfolding seens_for
+seens_step k ws b h = ap (λ (ys : List Word). seens_for (map item_of ys) b) (next_item any_word ws k h)
 
-pub seens_end : (n k : ℕ) (xs : List Word) (b : Box) → n ≤ k → seens_left n k xs b ≡ []
-unfolding first_in seens_for
-seens_end n k xs b h = ap (λ (i : ℕ). seens_for (words_in i (drop k xs)) b) (none_more n k h)
+pub seens_end : (k : ℕ) (ws : List Word) (b : Box) → length ws ≤ k → seens_left k ws b ≡ []
+unfolding seens_for
+seens_end k ws b h = ap (λ (ys : List Word). seens_for (map item_of ys) b) (none_left ws k h)
 
-pub seens_start : (n : ℕ) (xs : List Word) (b : Box) → seens_for (words_in n xs) b ≡ seens_left n 0 xs b
-seens_start n xs b = let z : n ≡ n - 0 = omega arith in ap (λ (i : ℕ). seens_for (words_in i xs) b) z
+pub news_step : (k : ℕ) (ws : List Word) (b : Box) → k < length ws →
+    news_left k ws b ≡ cond (newer (b.word (get_or ws k any_word).id.about) (entry_of (get_or ws k any_word)))
+    (record { about = (get_or ws k any_word).id.about; entry = b.word (get_or ws k any_word).id.about } ∷ news_left (k + 1) ws b) (news_left (k + 1) ws b)
+unfolding news_for
+news_step k ws b h = ap (λ (ys : List Word). news_for (map item_of ys) b) (next_item any_word ws k h)
 
-pub news_step : (n k : ℕ) (xs : List Word) (b : Box) → length xs ≡ 4 → n ≤ 4 → k < n →
-    news_left n k xs b ≡ cond (newer (b.word (get_or xs k any_word).id.about) (entry_of (get_or xs k any_word)))
-    (record { about = (get_or xs k any_word).id.about; entry = b.word (get_or xs k any_word).id.about } ∷ news_left n (k + 1) xs b) (news_left n (k + 1) xs b)
-unfolding first_in news_for
-news_step n k xs b l few h =
-    ap (λ (i : ℕ). news_for (words_in i (drop k xs)) b) (one_more n k h) ∙ ap (λ (ys : List Word). news_for (words_in (suc (n - (k + 1))) ys) b) (next_item any_word xs k 4 l (omega arith))
-
-pub news_end : (n k : ℕ) (xs : List Word) (b : Box) → n ≤ k → news_left n k xs b ≡ []
-unfolding first_in news_for
-news_end n k xs b h = ap (λ (i : ℕ). news_for (words_in i (drop k xs)) b) (none_more n k h)
-
-pub news_start : (n : ℕ) (xs : List Word) (b : Box) → news_for (words_in n xs) b ≡ news_left n 0 xs b
-news_start n xs b = let z : n ≡ n - 0 = omega arith in ap (λ (i : ℕ). news_for (words_in i xs) b) z
+pub news_end : (k : ℕ) (ws : List Word) (b : Box) → length ws ≤ k → news_left k ws b ≡ []
+unfolding news_for
+news_end k ws b h = ap (λ (ys : List Word). news_for (map item_of ys) b) (none_left ws k h)
 
 -- each word is about a box that there is
-abbrev pub AllIn : ℕ → ℕ → ℕ → List Word → Type 0
-AllIn boxes n k xs = any_in (is_out boxes) (n - k) (drop k (ids_of xs)) ≡ false
-
-pub all_start : (boxes n : ℕ) (xs : List Word) → any_in (is_out boxes) n (ids_of xs) ≡ false → AllIn boxes n 0 xs
-all_start boxes n xs h = let z : n - 0 ≡ n = omega arith in ap (λ (i : ℕ). any_in (is_out boxes) i (ids_of xs)) z ∙ h
-
-pub all_next : (boxes n k : ℕ) (xs : List Word) → length xs ≡ 4 → n ≤ 4 → k < n → AllIn boxes n k xs → AllIn boxes n (k + 1) xs
-all_next boxes n k xs l few h q = none_later (is_out boxes) n k (ids_of xs) (ids_length xs ∙ l) few h q
-
-pub about_in_lem : (boxes n k : ℕ) (xs : List Word) → length xs ≡ 4 → n ≤ 4 → k < n → AllIn boxes n k xs → (get_or xs k any_word).id.about < boxes
-about_in_lem boxes n k xs l few h q =
-    subst (λ (x : WordId). x.about < boxes) (ids_at xs k) (ltb-true (get_or (ids_of xs) k no_id).about boxes (go (ltb (get_or (ids_of xs) k no_id).about boxes) (eqb (get_or (ids_of xs) k no_id).count 0) (none_here (is_out boxes) n k (ids_of xs) (ids_length xs ∙ l) few h q)))
+pub about_in_lem : (n k : ℕ) (ws : List Word) → k < length ws → NonePass (λ x. is_out n x.id) (drop k ws) → (get_or ws k any_word).id.about < n
+about_in_lem n k ws h q = let x = get_or ws k any_word in ltb-true x.id.about n (go (ltb x.id.about n) (eqb x.id.count 0) (none_here (λ y. is_out n y.id) any_word ws k h q))
   where
     go : (a c : Bool) → (not a || c) ≡ false → a ≡ true
     go true c e = refl
     go false c e = let z : ◌≡◌ {A = ℕ} 0 1 = cc in absurd (omega arith)
-
-pub showing_as : {p : Seens} {c d : ℕ} {xs : List Sight} → c ≡ d → Showing p c xs → Showing p d xs
-showing_as {p} {c} {d} {xs} a h = subst (λ (k : ℕ). Showing p k xs) a h

@@ -1,16 +1,31 @@
 -- A packet of words carries a list of them.
-use Rattle.std.proofs.Common.{◌≡◌, ℕ, zero, suc, ◌<◌, ◌≤◌, Bool, true, false, cond, eqb, List, [], ◌∷◌, ◌++◌, length, get_or, Some, Option, refl, ap, ◌∙◌, subst, ap₂, suc-le-suc, zero-le, le_of_suc-le-suc, not-suc-le-zero}
+use Rattle.std.proofs.Common.{◌≡◌, ℕ, zero, suc, ◌<◌, ◌≤◌, Bool, true, false, cond, eqb, List, [], ◌∷◌, ◌++◌, length, get_or, take, replicate, Some, Option, refl, ap, ◌∙◌, ap₂, suc-le-suc, zero-le, le_of_suc-le-suc, not-suc-le-zero, arith}
+use Rattle.std.specs.Array.{AllOfLen}
 use Rattle.messages.specs.declared.values.Word.{Word}
-use Rattle.messages.specs.declared.values.Words.{Words}
+use Rattle.messages.specs.declared.values.WordId.{WordId}
 use Rattle.model.specs.Box.{Box, tells}
 use Rattle.model.specs.Words.{unsaid}
 use Rattle.linkmodel.specs.Station.{Item, Station, items_of, wire_to}
 use Rattle.linkmodel.specs.Links.{who_on}
-use Rattle.station.specs.Packets.{first_in}
+use Rattle.station.specs.Packets.{first_in, no_id}
+use Rattle.station.proofs.Scans.{taken_at}
 use Rattle.station.specs.Ticking.{Carries, is_telling, item_of, no_word, told_on, told_to, words_in}
 
 abbrev pub no_item : Item
 no_item = record { about = 0; entry = unsaid }
+
+-- all zeros
+pub no_id_lem : (x : WordId) → (x.about ≡ 0) × ((x.count ≡ 0) × (x.tag ≡ 0)) → x ≡ no_id
+no_id_lem x h = λ k. record { about = h.0 k; count = h.1.0 k; tag = h.1.1 k }
+
+zeros : (n : ℕ) (xs : List ℕ) → length xs ≡ n → ((i : ℕ) → i < n → get_or xs i 0 ≡ 0) → xs ≡ replicate n 0
+zeros zero [] l h = refl
+zeros zero (x ∷ xs) l h = absurd (omega arith)
+zeros (suc n) [] l h = absurd (omega arith)
+zeros (suc n) (x ∷ xs) l h = ap₂ (λ (y : ℕ) (ys : List ℕ). y ∷ ys) (h 0 (suc-le-suc zero-le)) (zeros n xs (omega arith) (λ i q. h (suc i) (suc-le-suc q)))
+
+pub no_word_lem : (x : Word) → ((x.id.about ≡ 0) × ((x.id.count ≡ 0) × (x.id.tag ≡ 0))) × AllOfLen (λ (y : ℕ). y ≡ 0) x.costs 64 → x ≡ no_word
+no_word_lem x h = λ k. record { id = no_id_lem x.id h.0 k; costs = zeros 64 x.costs h.1.long (λ i q. h.1.at i 0 q) k }
 
 -- four blanks
 pub four_blank : {A : Type 0} (x d : A) → x ≡ d → (k : ℕ) → get_or (x ∷ x ∷ x ∷ x ∷ []) k d ≡ d
@@ -43,13 +58,14 @@ item_at (p ∷ ps) b zero l = refl
 item_at (p ∷ ps) b (suc j) l = item_at ps b j (le_of_suc-le-suc l)
 
 -- zeros after a list aren't seen within it
-pub at_padded : (ps zs : List ℕ) (j : ℕ) → j < length ps → get_or (ps ++ zs) j 0 ≡ get_or ps j 0
+at_padded : (ps zs : List ℕ) (j : ℕ) → j < length ps → get_or (ps ++ zs) j 0 ≡ get_or ps j 0
 at_padded [] zs j l = absurd (not-suc-le-zero l)
 at_padded (p ∷ ps) zs zero l = refl
 at_padded (p ∷ ps) zs (suc j) l = at_padded ps zs j (le_of_suc-le-suc l)
 
-pub carries_as : {p : Words} {c d : ℕ} {xs ys : List Item} → c ≡ d → xs ≡ ys → Carries p c xs → Carries p d ys
-carries_as {p} {c} {d} {xs} {ys} a b h = subst (λ (k : ℕ). Carries p k ys) a (subst (λ (zs : List Item). Carries p c zs) b h)
+-- so that one of the first n, where zeros come after, is one of the list
+pub named_at : (n : ℕ) (xs ps zs : List ℕ) (j : ℕ) → xs ≡ ps ++ zs → j < length ps → j < length (take n xs) → get_or (take n xs) j 0 ≡ get_or ps j 0
+named_at n xs ps zs j e l h = taken_at 0 n xs j h ∙ ap (λ (qs : List ℕ). get_or qs j 0) e ∙ at_padded ps zs j l
 
 -- what is told over a wire whose neighbour is known
 pub told_to_lem : (w e : ℕ) (s : Station) → is_telling s.links ≡ true → who_on (s.links.wire w) ≡ Some e → eqb (wire_to e s.links) w ≡ true → told_on w s ≡ items_of (tells e s.box) s.box

@@ -1,6 +1,6 @@
 -- Each call does its events.
 use Rattle.std.proofs.Common.{◌≡◌, ℕ, zero, suc, ◌≤◌, Bool, true, false, not, ◌&&◌, ◌||◌, T, eqb, ltb, List, [], ◌∷◌, ◌++◌, length, take, Some, sym, refl, ap, ◌∙◌, subst, le_of_suc-le-suc, not-suc-le-zero, arith}
-use Rattle.messages.specs.Values.{entry_of}
+use Rattle.messages.specs.Values.{entry_of, ids_of}
 use Rattle.messages.specs.declared.values.Word.{Word}
 use Rattle.model.specs.Box.{Box, Stands}
 use Rattle.model.specs.Words.{Ev, newer}
@@ -12,7 +12,6 @@ use Rattle.linkmodel.proofs.Joins.{ticks_so_lem}
 use Rattle.linkmodel.proofs.Sendings.{answers_so_lem, tells_so_lem}
 use Rattle.linkmodel.proofs.Takings.{words_so_lem}
 use Rattle.station.specs.Events.{AnswersDid, Did, TellsDid, TickDid, WordsDid}
-use Rattle.station.specs.Hearing.{ids_of}
 use Rattle.station.specs.Packets.{any_in, first_in, is_out}
 use Rattle.station.specs.Ticking.{words_in}
 use Rattle.station.proofs.Admitted.{teller_is, teller_open}
@@ -48,7 +47,7 @@ words_did_lem w n d xs ts s r j few l m h es ks e q sent new free st =
 
 -- what is answered is about boxes that there are
 under : (b : Box) (n k : ℕ) (xs : List Word) → any_in (is_out n) k (ids_of xs) ≡ false → T (all_under n (abouts (news_for (words_in k xs) b)))
-unfolding first_in any_in ids_of news_for abouts all_under
+unfolding first_in any_in news_for abouts all_under
 under b n zero xs h = tt
 under b n (suc k) [] h = tt
 under b n (suc k) (x ∷ xs) h =

@@ -2,11 +2,11 @@
 use Rattle.std.proofs.Common.{◌≡◌, ℕ, zero, suc, ◌<◌, ◌≤◌, Bool, true, false, cond, eqb, ltb, List, [], ◌∷◌, ◌++◌, length, get_or, Some, None, Option, sym, refl, ap, ◌∙◌, ap₂, arith, ltb-true, eq-eqb, ne_eqb}
 use Rattle.hello.specs.State.{hello_on, sent_as}
 use Rattle.messages.specs.declared.values.Hello.{Hello}
-use Rattle.messages.specs.declared.values.Words.{Words}
+use Rattle.messages.specs.Packets.{Words}
 use Rattle.model.specs.Box.{tells}
 use Rattle.linkmodel.specs.Links.{Hello as Greeting, Links, hello_for, road_cost, sends_hello, who_on}
 use Rattle.linkmodel.specs.Station.{Greets, Item, Out, Shows, Sight, Station, Tells, hellos_on, items_of, seens_out, tells_on, tick_out, wire_to, words_out}
-use Rattle.messages.specs.declared.values.Seens.{Seens}
+use Rattle.messages.specs.Packets.{Seens}
 use Rattle.station.specs.Packets.{seens_of}
 use Rattle.station.specs.Hearing.{Showing, shown_on}
 use Rattle.station.specs.Ticking.{Carries, bundle_of, goes_out, greeting_on, greetings_in, is_telling, no_words, packet_on, tellings_in, told_on, told_to}

@@ -1,11 +1,8 @@
 -- What a box keeps as a fact, it has: both facts are about numbers and tests.
-use Rattle.std.proofs.Common.{◌≡◌, ℕ, suc, ◌<◌, ◌≤◌, Bool, true, false, ltb, List, get_or, refl, ap, arith, ltb-true, lt-ltb}
+use Rattle.std.proofs.Common.{◌≡◌, ℕ, suc, ◌<◌, Bool, true, false, ltb, List, get_or, refl, ap, arith, ltb-true, lt-ltb}
 use mathlib.Core.Logic.{∥∥₁_elim}
 use native.Mathlib.Nat.{ℕ_set}
 use Rattle.model.specs.Map.{Map, Hop, Nowhere, To, hop}
-use Rattle.router.specs.State.{hop_of as hopBy}
-use Rattle.router.specs.declared.answers.Hop.{Hop as Answer}
-use Rattle.router.specs.declared.answers.Hop.TheVariants.{Nowhere as Away, To as Onto}
 use Rattle.ways.specs.Numbers.{hop_of}
 use Rattle.ways.specs.Table.{Found}
 use Rattle.linkmodel.specs.Links.{Wire, Silent, Heard, Open}
@@ -80,11 +77,3 @@ joined_had s h = record {
 
 pub next_had : (z : Map) (me : ℕ) (far next : List ℕ) → ∥ Found z me far next ∥₁ → (d : ℕ) → d < z.n → hop_of (get_or next d 0) ≡ hop z d me
 next_had z me far next h d l = same_place (hop_of (get_or next d 0)) (hop z d me) (∥∥₁_elim h (ℕ_set (place_of (hop_of (get_or next d 0))) (place_of (hop z d me))) (λ f. ap place_of (f.nexts d l)))
-
-pub none_had : (z : Map) (me : ℕ) (far next : List ℕ) → ∥ Found z me far next ∥₁ → (d : ℕ) → z.n ≤ d → d < 64 → hop_of (get_or next d 0) ≡ Nowhere
-none_had z me far next h d l b = ap hop_of (∥∥₁_elim h (ℕ_set (get_or next d 0) 255) (λ f. f.no_nexts d l b))
-
--- the code's answer that there is none
-pub nowhere_is : (r : Answer) → hopBy r ≡ Nowhere → r ≡ Away
-nowhere_is Away e = refl
-nowhere_is (Onto b) e = let z : ◌≡◌ {A = ℕ} 0 1 = cc in absurd (omega arith)

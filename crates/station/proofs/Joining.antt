@@ -1,9 +1,10 @@
 -- All roads of a whole box change as its wires do, and wires and roads stay joined.
-use Rattle.std.proofs.Common.{◌≡◌, ℕ, ◌<◌, ◌≤◌, Bool, true, false, cond, not, ◌&&◌, eqb, ltb, sym, refl, ap, ◌∙◌, subst, arith, ltb-false, ltb-true, eqb-true}
+use Rattle.std.proofs.Common.{◌≡◌, ℕ, ◌^◌, ◌<◌, ◌≤◌, Bool, true, false, cond, not, ◌&&◌, eqb, ltb, sym, refl, ap, ◌∙◌, subst, add-one, arith, ltb-false, ltb-true, eqb-true}
 use mathlib.Core.Bool.{and-false}
 use Rattle.model.specs.Box.{Box, begun, forgets, must_say, says_now}
 use Rattle.model.proofs.Tests.{of_cond}
-use Rattle.router.specs.State.{road_to, relink_to, still_shown}
+use Rattle.telling.specs.Telling.{ticked_if}
+use Rattle.router.specs.State.{has_room, road_to, relink_to, still_shown}
 use Rattle.router.proofs.AllRoads.{road_past, shut_shows}
 use Rattle.router.proofs.SameBox.{same_box}
 use Rattle.linkmodel.specs.Links.{Links, fell, fresh, lowest_to, road_cost}
@@ -87,6 +88,13 @@ same_station a b = λ k. record { links = a k; box = b k }
 -- what comes to the wires leaves them sound, and those of the same box
 pub still_sound : (i : Input) (s after : Links) → Sound s → after ≡ meets i s → Sound after × ((after.n ≡ s.n) × (after.me ≡ s.me))
 still_sound i s after k e = (subst Sound (sym e) (sound_meets i s k), (ap (λ (x : Links). x.n) e ∙ (meets_same i s).0, ap (λ (x : Links). x.me) e ∙ (meets_same i s).1))
+
+-- room for the next count, as the calls of a box have it
+room_lem : (b : Box) → has_room b ≡ can_say (b.word b.me).number
+room_lem b = ap (λ (k : ℕ). ltb k (2 ^ 63)) (add-one (b.word b.me).number)
+
+pub owed_lem : (t : ℕ) (b : Box) → ticked_if t b ≡ says_if_owed t b
+owed_lem t b = ap (λ (r : Bool). cond (must_say b && r) (says_now t b) b) (room_lem b)
 
 -- what a box says changes no road
 pub joined_said : (t : ℕ) (s : Station) → Joined s → Joined (with_box (says_if_owed t s.box) s)

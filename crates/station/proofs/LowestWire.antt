@@ -1,9 +1,12 @@
 -- The lowest open wire to a box, and that a road that is open has one.
-use Rattle.std.proofs.Common.{◌≡◌, ℕ, zero, suc, ◌+◌, ◌<◌, ◌≤◌, Bool, true, false, cond, eqb, Some, None, Option, refl, ap, ◌∙◌, arith, eqb-true}
+use Rattle.std.proofs.Common.{◌≡◌, ℕ, zero, suc, ◌+◌, ◌<◌, ◌≤◌, Bool, true, false, cond, eqb, ltb, Some, None, Option, sym, refl, ap, ◌∙◌, arith, eqb-true, ne_eqb}
+use Rattle.std.specs.Bool.{then_some}
+use Rattle.std.specs.Option.{MatchOption, option_eq}
 use borrow.Author.Tests.{eqb-false}
-use Rattle.hello.specs.State.{LowestTo}
+use Rattle.hello.specs.State.{LowestTo, cost_over}
 use Rattle.linkmodel.specs.Links.{Links, Wire, Silent, Heard, Open, lowest_to, opens_to, road_cost, who_on}
 use Rattle.linkmodel.specs.Station.{lowest_wire, wire_to}
+use Rattle.station.specs.State.{wire_open}
 
 -- 8 stands for none
 abbrev pub wire_in : Option ℕ → ℕ
@@ -31,6 +34,23 @@ first_from e s w (suc k) u a b o h = go (eqb w u) refl (λ l. first_from e s (w 
 pub lowest_wire_lem : (e : ℕ) (s : Links) (r : Option ℕ) → LowestTo e s r → wire_to e s ≡ wire_in r
 lowest_wire_lem e s None h = none_from e s 0 8 (λ v a b. h v (omega arith))
 lowest_wire_lem e s (Some w) h = first_from e s 0 8 w (omega arith) (omega (arith, h.0)) h.1 (λ v a b. h.2 v b)
+
+-- whether a wire is the lowest
+pub lowest_is : (e w : ℕ) (s : Links) (r : Option ℕ) → w < 8 → LowestTo e s r → option_eq eqb r (Some w) ≡ eqb (wire_to e s) w
+lowest_is e w s None l h = sym (ap (λ (v : ℕ). eqb v w) (lowest_wire_lem e s None h) ∙ ne_eqb 8 w (λ q. absurd (omega arith)))
+lowest_is e w s (Some v) l h = sym (ap (λ (u : ℕ). eqb u w) (lowest_wire_lem e s (Some v) h))
+
+-- the lowest wire, if it has a cost
+pub open_is : (e : ℕ) (s : Links) (r o : Option ℕ) (Q : ℕ → Bool → Type 0) → LowestTo e s r → road_cost e s ≡ cost_over r s → ((x : ℕ) (b : Bool) → Q x b → b ≡ ltb 0 (s.cost x)) →
+    MatchOption r (o ≡ None) (λ x. (b : Bool) × Q x b × (o ≡ then_some b x)) → o ≡ wire_open e s
+open_is e s None o Q low c t h = h ∙ sym (ap (λ (z : ℕ). cond (ltb 0 z) (Some (wire_to e s)) None) c)
+open_is e s (Some w) o Q low c t h =
+    h.2 ∙ ap (λ (b : Bool). then_some b w) (t w h.0 h.1) ∙ both (ltb 0 (s.cost w)) ∙ ap (λ (v : ℕ). cond (ltb 0 (s.cost w)) (Some v) None) (sym (lowest_wire_lem e s (Some w) low))
+    ∙ sym (ap (λ (z : ℕ). cond (ltb 0 z) (Some (wire_to e s)) None) c)
+  where
+    both : (b : Bool) → then_some b w ≡ cond b (Some w) None
+    both true = refl
+    both false = refl
 
 -- a road that is open is so over its lowest wire
 open_from : (e : ℕ) (s : Links) (w k : ℕ) → w + k ≡ 8 → 0 < lowest_to e s w k → (lowest_wire e s w k < 8) × (opens_to e (s.wire (lowest_wire e s w k)) ≡ true)

@@ -1,11 +1,11 @@
 -- A packet of seens, one after the other.
-use Rattle.std.proofs.Common.{◌≡◌, ℕ, suc, ◌+◌, ◌-◌, ◌<◌, ◌≤◌, List, [], ◌∷◌, length, get_or, drop, sym, refl, ap, ◌∙◌, arith}
+use Rattle.std.proofs.Common.{◌≡◌, ℕ, ◌+◌, ◌<◌, ◌≤◌, List, [], ◌∷◌, map, length, get_or, drop, sym, refl, ap, ◌∙◌}
 use Rattle.messages.specs.declared.values.WordId.{WordId}
 use Rattle.model.specs.Box.{Box, map_in, sees}
 use Rattle.linkmodel.specs.Station.{Sight, Station, sees_all, with_box}
 use Rattle.linkmodel.specs.Calls.{Joined}
-use Rattle.station.specs.Packets.{first_in, no_id, sights_in}
-use Rattle.station.proofs.Scans.{next_item, none_more, one_more}
+use Rattle.station.specs.Packets.{no_id, sight_of}
+use Rattle.station.proofs.Scans.{next_item, none_left}
 
 -- a box with the same roads
 pub record SameRoads (a b : Box) : Type 0 where
@@ -16,15 +16,17 @@ pub record SameRoads (a b : Box) : Type 0 where
 pub roads_refl : (a : Box) → SameRoads a a
 roads_refl a = record { boxes = refl; self = refl; roads = λ e. refl }
 
-pub seen_step : (e n k : ℕ) (xs : List WordId) (b : Box) → length xs ≡ 4 → n ≤ 4 → k < n →
-    sees_all e (sights_in (n - k) (drop k xs)) b ≡ sees_all e (sights_in (n - (k + 1)) (drop (k + 1) xs)) (sees e (get_or xs k no_id).about (get_or xs k no_id).count (get_or xs k no_id).tag b)
-unfolding first_in sees_all
-seen_step e n k xs b l m h =
-    ap (λ (i : ℕ). sees_all e (sights_in i (drop k xs)) b) (one_more n k h) ∙ ap (λ (ys : List WordId). sees_all e (sights_in (suc (n - (k + 1))) ys) b) (next_item no_id xs k 4 l (omega arith))
+-- what is left to see, from number k on
+abbrev pub sees_from : ℕ → ℕ → List WordId → Box → Box
+sees_from e k xs b = sees_all e (map sight_of (drop k xs)) b
 
-pub seen_end : (e n k : ℕ) (xs : List WordId) (b : Box) → n ≤ k → sees_all e (sights_in (n - k) (drop k xs)) b ≡ b
-unfolding first_in sees_all
-seen_end e n k xs b h = ap (λ (i : ℕ). sees_all e (sights_in i (drop k xs)) b) (none_more n k h)
+pub seen_step : (e k : ℕ) (xs : List WordId) (b : Box) → k < length xs → sees_from e k xs b ≡ sees_from e (k + 1) xs (sees e (get_or xs k no_id).about (get_or xs k no_id).count (get_or xs k no_id).tag b)
+unfolding sees_all
+seen_step e k xs b h = ap (λ (ys : List WordId). sees_all e (map sight_of ys) b) (next_item no_id xs k h)
+
+pub seen_end : (e k : ℕ) (xs : List WordId) (b : Box) → length xs ≤ k → sees_from e k xs b ≡ b
+unfolding sees_all
+seen_end e k xs b h = ap (λ (ys : List WordId). sees_all e (map sight_of ys) b) (none_left xs k h)
 
 -- only what is shown changes
 record SameBut (a b : Box) : Type 0 where

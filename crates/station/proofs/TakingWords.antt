@@ -1,5 +1,6 @@
 -- A packet of words, one after the other.
-use Rattle.std.proofs.Common.{◌≡◌, ℕ, zero, suc, ◌+◌, ◌-◌, ◌^◌, ◌<◌, ◌≤◌, Bool, true, false, cond, not, ◌||◌, eqb, ltb, leb, ◌≢◌, List, [], ◌∷◌, length, get_or, take, drop, set, Some, None, Option, sym, refl, ap, ◌∙◌, subst, arith, length-set, get_or-set_other, get_or-set_same, below_more, ltb-false, ltb-true}
+use Rattle.std.proofs.Common.{◌≡◌, ℕ, zero, suc, ◌+◌, ◌-◌, ◌^◌, ◌<◌, ◌≤◌, Bool, true, false, cond, not, ◌||◌, eqb, ltb, leb, ◌≢◌, List, [], ◌∷◌, length, get_or, map, take, drop, set, Some, None, Option, sym, refl, ap, ◌∙◌, subst, arith, length-set, get_or-set_other, get_or-set_same, below_more, ltb-false, ltb-true}
+use Rattle.messages.specs.Values.{ids_of}
 use Rattle.messages.specs.declared.values.Word.{Word}
 use Rattle.messages.specs.declared.values.WordId.{WordId}
 use Rattle.model.specs.Box.{Box, has, is_new_to, own_word, takes}
@@ -11,32 +12,12 @@ use Rattle.linkmodel.specs.Station.{Item, Station, is_stuck, marks_item, takes_a
 use Rattle.linkmodel.specs.Calls.{Joined}
 use Rattle.station.specs.Packets.{AllGood, any_in, first_in, is_out, is_spent, no_id}
 use Rattle.station.specs.Ticking.{item_of, words_in}
-use Rattle.station.specs.Hearing.{ids_of, outcome_if, outcomes_in}
-use Rattle.station.proofs.Scans.{next_item, none_later, none_more, one_more}
+use Rattle.station.specs.Hearing.{outcome_if, outcomes_in}
+use Rattle.station.proofs.Scans.{NonePass, next_item, none_later, none_left, none_told}
 use Rattle.station.proofs.Seeing.{SameRoads}
 
 abbrev pub any_word : Word
 any_word = record { id = no_id; costs = [] }
-
-pub four_ids : (xs : List Word) → length xs ≡ 4 → ((get_or xs 0 any_word).id ∷ (get_or xs 1 any_word).id ∷ (get_or xs 2 any_word).id ∷ (get_or xs 3 any_word).id ∷ []) ≡ ids_of xs
-unfolding ids_of
-four_ids [] l = absurd (omega arith)
-four_ids (a ∷ []) l = absurd (omega arith)
-four_ids (a ∷ b ∷ []) l = absurd (omega arith)
-four_ids (a ∷ b ∷ c ∷ []) l = absurd (omega arith)
-four_ids (a ∷ b ∷ c ∷ d ∷ []) l = refl
-four_ids (a ∷ b ∷ c ∷ d ∷ e ∷ xs) l = absurd (omega arith)
-
-pub ids_length : (xs : List Word) → length (ids_of xs) ≡ length xs
-unfolding ids_of
-ids_length [] = refl
-ids_length (x ∷ xs) = ap suc (ids_length xs)
-
-pub ids_at : (xs : List Word) (k : ℕ) → get_or (ids_of xs) k no_id ≡ (get_or xs k any_word).id
-unfolding ids_of
-ids_at [] k = refl
-ids_at (x ∷ xs) zero = refl
-ids_at (x ∷ xs) (suc k) = ids_at xs k
 
 -- no road changes
 pub taken_roads : (e : ℕ) (x : Item) (t : ℕ) (b : Box) → SameRoads b (takes_item e x t b)
@@ -77,67 +58,93 @@ id_same from x a b r =
 abbrev pub after_one : Bool → ℕ → Word → ℕ → Box → Box
 after_one fits e x t b = marks_item fits e (item_of x) (takes_item e (item_of x) t b)
 
-take_step : (fits : Bool) (e n k : ℕ) (xs : List Word) (ts : List ℕ) (b : Box) → length xs ≡ 4 → length ts ≡ 4 → n ≤ 4 → k < n →
-    takes_all fits e (words_in (n - k) (drop k xs)) (take (n - k) (drop k ts)) b ≡ takes_all fits e (words_in (n - (k + 1)) (drop (k + 1) xs)) (take (n - (k + 1)) (drop (k + 1) ts)) (after_one fits e (get_or xs k any_word) (get_or ts k 0) b)
-unfolding first_in takes_all
-take_step fits e n k xs ts b l m few h =
-    ap (λ (i : ℕ). takes_all fits e (words_in i (drop k xs)) (take i (drop k ts)) b) (one_more n k h)
-    ∙ ap (λ (ys : List Word). takes_all fits e (words_in (suc (n - (k + 1))) ys) (take (suc (n - (k + 1))) (drop k ts)) b) (next_item any_word xs k 4 l (omega arith))
-    ∙ ap (λ (us : List ℕ). takes_all fits e (words_in (suc (n - (k + 1))) (get_or xs k any_word ∷ drop (k + 1) xs)) (take (suc (n - (k + 1))) us) b) (next_item 0 ts k 4 m (omega arith))
+-- what is left to take, from word k on, and what becomes of it
+abbrev pub takes_from : Bool → ℕ → ℕ → List Word → List ℕ → Box → Box
+takes_from fits e k ws ts b = takes_all fits e (map item_of (drop k ws)) (drop k ts) b
 
-take_end : (fits : Bool) (e n k : ℕ) (xs : List Word) (ts : List ℕ) (b : Box) → n ≤ k → takes_all fits e (words_in (n - k) (drop k xs)) (take (n - k) (drop k ts)) b ≡ b
-unfolding first_in takes_all
-take_end fits e n k xs ts b h = ap (λ (i : ℕ). takes_all fits e (words_in i (drop k xs)) (take i (drop k ts)) b) (none_more n k h)
+abbrev pub outcomes : Bool → ℕ → List Word → List ℕ → Box → List (Option Outcome)
+outcomes fits e ws ts b = outcomes_in fits e (length ws) ws ts b
 
-outcome_step : (fits : Bool) (e n k : ℕ) (xs : List Word) (ts : List ℕ) (b : Box) → length xs ≡ 4 → length ts ≡ 4 → n ≤ 4 → k < n →
-    outcomes_in fits e (n - k) (drop k xs) (drop k ts) b ≡ outcome_if e (get_or xs k any_word) b ∷ outcomes_in fits e (n - (k + 1)) (drop (k + 1) xs) (drop (k + 1) ts) (after_one fits e (get_or xs k any_word) (get_or ts k 0) b)
+take_step : (fits : Bool) (e k : ℕ) (ws : List Word) (ts : List ℕ) (b : Box) → k < length ws → k < length ts →
+    takes_from fits e k ws ts b ≡ takes_from fits e (k + 1) ws ts (after_one fits e (get_or ws k any_word) (get_or ts k 0) b)
+unfolding takes_all
+take_step fits e k ws ts b h l =
+    ap (λ (ys : List Word). takes_all fits e (map item_of ys) (drop k ts) b) (next_item any_word ws k h)
+    ∙ ap (λ (us : List ℕ). takes_all fits e (item_of (get_or ws k any_word) ∷ map item_of (drop (k + 1) ws)) us b) (next_item 0 ts k l)
+
+take_end : (fits : Bool) (e k : ℕ) (ws : List Word) (ts : List ℕ) (b : Box) → length ws ≤ k → takes_from fits e k ws ts b ≡ b
+unfolding takes_all
+take_end fits e k ws ts b h = ap (λ (ys : List Word). takes_all fits e (map item_of ys) (drop k ts) b) (none_left ws k h)
+
+outcome_step : (fits : Bool) (e k : ℕ) (ws : List Word) (ts : List ℕ) (b : Box) → k < length ws → k < length ts →
+    outcomes fits e (drop k ws) (drop k ts) b ≡ outcome_if e (get_or ws k any_word) b ∷ outcomes fits e (drop (k + 1) ws) (drop (k + 1) ts) (after_one fits e (get_or ws k any_word) (get_or ts k 0) b)
 unfolding outcomes_in
-outcome_step fits e n k xs ts b l m few h =
-    ap (λ (i : ℕ). outcomes_in fits e i (drop k xs) (drop k ts) b) (one_more n k h)
-    ∙ ap (λ (ys : List Word). outcomes_in fits e (suc (n - (k + 1))) ys (drop k ts) b) (next_item any_word xs k 4 l (omega arith))
-    ∙ ap (λ (us : List ℕ). outcomes_in fits e (suc (n - (k + 1))) (get_or xs k any_word ∷ drop (k + 1) xs) us b) (next_item 0 ts k 4 m (omega arith))
+outcome_step fits e k ws ts b h l =
+    ap (λ (ys : List Word). outcomes fits e ys (drop k ts) b) (next_item any_word ws k h)
+    ∙ ap (λ (us : List ℕ). outcomes fits e (get_or ws k any_word ∷ drop (k + 1) ws) us b) (next_item 0 ts k l)
 
-outcome_end : (fits : Bool) (e n k : ℕ) (xs : List Word) (ts : List ℕ) (b : Box) → n ≤ k → outcomes_in fits e (n - k) (drop k xs) (drop k ts) b ≡ []
+outcome_end : (fits : Bool) (e k : ℕ) (ws : List Word) (ts : List ℕ) (b : Box) → length ws ≤ k → outcomes fits e (drop k ws) (drop k ts) b ≡ []
 unfolding outcomes_in
-outcome_end fits e n k xs ts b h = ap (λ (i : ℕ). outcomes_in fits e i (drop k xs) (drop k ts) b) (none_more n k h)
+outcome_end fits e k ws ts b h = ap (λ (ys : List Word). outcomes fits e ys (drop k ts) b) (none_left ws k h)
+
+-- the first n words are those of their slice, which need no tags but the first n
+pub takes_told : (fits : Bool) (e n : ℕ) (xs : List Word) (ts : List ℕ) (b : Box) → takes_all fits e (words_in n xs) (take n ts) b ≡ takes_all fits e (map item_of (take n xs)) ts b
+unfolding first_in takes_all
+takes_told fits e zero xs ts b = refl
+takes_told fits e (suc n) [] ts b = refl
+takes_told fits e (suc n) (x ∷ xs) [] b = refl
+takes_told fits e (suc n) (x ∷ xs) (t ∷ ts) b = takes_told fits e n xs ts (after_one fits e x t b)
+
+pub outcomes_told : (fits : Bool) (e n : ℕ) (xs : List Word) (ts : List ℕ) (b : Box) → outcomes_in fits e n xs ts b ≡ outcomes fits e (take n xs) ts b
+unfolding outcomes_in
+outcomes_told fits e zero xs ts b = refl
+outcomes_told fits e (suc n) [] ts b = refl
+outcomes_told fits e (suc n) (x ∷ xs) [] b = refl
+outcomes_told fits e (suc n) (x ∷ xs) (t ∷ ts) b = ap (λ (os : List (Option Outcome)). outcome_if e x b ∷ os) (outcomes_told fits e n xs ts (after_one fits e x t b))
+
+-- the numbers of these words are in range, and can be said
+abbrev pub GoodWords : ℕ → List Word → Type 0
+GoodWords n ws = NonePass (λ x. is_out n x.id) ws × NonePass (λ x. is_spent x.id) ws
+
+pub good_told : (n k : ℕ) (xs : List Word) → AllGood n k (ids_of xs) → GoodWords n (take k xs)
+good_told n k xs g = (told (is_out n) g.0, told is_spent g.1)
+  where
+    told : (f : WordId → Bool) → any_in f k (ids_of xs) ≡ false → NonePass (λ (x : Word). f x.id) (take k xs)
+    told f e = none_told f k xs e
 
 -- those below k are heard, which led from a to b: what is left leads on to the same
-pub record HeardTo (fits : Bool) (e n : ℕ) (xs : List Word) (ts : List ℕ) (a : Box) (k : ℕ) (b : Box) (os : List (Option Outcome)) : Type 0 where
-  pub leads : takes_all fits e (words_in n xs) (take n ts) a ≡ takes_all fits e (words_in (n - k) (drop k xs)) (take (n - k) (drop k ts)) b
+pub record HeardTo (fits : Bool) (e : ℕ) (ws : List Word) (ts : List ℕ) (a : Box) (k : ℕ) (b : Box) (os : List (Option Outcome)) : Type 0 where
+  pub leads : takes_all fits e (map item_of ws) ts a ≡ takes_from fits e k ws ts b
   pub same : SameRoads a b
-  pub good : AllGood a.n (n - k) (drop k (ids_of xs))
+  pub good : GoodWords a.n (drop k ws)
   pub room : length os ≡ 4
-  pub done : (j : ℕ) → j < k → get_or os j None ≡ get_or (outcomes_in fits e n xs ts a) j None
+  pub done : (j : ℕ) → j < k → get_or os j None ≡ get_or (outcomes fits e ws ts a) j None
   pub none : (j : ℕ) → k ≤ j → get_or os j None ≡ None
-  pub later : (j : ℕ) → get_or (outcomes_in fits e n xs ts a) (k + j) None ≡ get_or (outcomes_in fits e (n - k) (drop k xs) (drop k ts) b) j None
+  pub later : (j : ℕ) → get_or (outcomes fits e ws ts a) (k + j) None ≡ get_or (outcomes fits e (drop k ws) (drop k ts) b) j None
 
-module _ (fits : Bool) (e n : ℕ) (xs : List Word) (ts : List ℕ) (a : Box) where
-  pub heard_none : (os : List (Option Outcome)) → length os ≡ 4 → ((j : ℕ) → get_or os j None ≡ None) → AllGood a.n n (ids_of xs) → HeardTo fits e n xs ts a 0 a os
-  heard_none os l h g =
-      let z : n ≡ n - 0 = omega arith in
-      record {
-        leads = ap (λ (i : ℕ). takes_all fits e (words_in i xs) (take i ts) a) z;
-        same = record { boxes = refl; self = refl; roads = λ i. refl };
-        good = (ap (λ (i : ℕ). any_in (is_out a.n) i (ids_of xs)) (sym z) ∙ g.0, ap (λ (i : ℕ). any_in is_spent i (ids_of xs)) (sym z) ∙ g.1);
-        room = l;
-        done = λ j q. absurd (omega arith);
-        none = λ j q. h j;
-        later = λ j. let y : 0 + j ≡ j = omega arith in ap (λ (i : ℕ). get_or (outcomes_in fits e n xs ts a) i None) y ∙ ap (λ (i : ℕ). get_or (outcomes_in fits e i xs ts a) j None) z;
-      }
+module _ (fits : Bool) (e : ℕ) (ws : List Word) (ts : List ℕ) (a : Box) where
+  pub heard_none : (os : List (Option Outcome)) → length os ≡ 4 → ((j : ℕ) → get_or os j None ≡ None) → GoodWords a.n ws → HeardTo fits e ws ts a 0 a os
+  heard_none os l h g = record {
+    leads = refl;
+    same = record { boxes = refl; self = refl; roads = λ i. refl };
+    good = g;
+    room = l;
+    done = λ j q. absurd (omega arith);
+    none = λ j q. h j;
+    later = λ j. let y : 0 + j ≡ j = omega arith in ap (λ (i : ℕ). get_or (outcomes fits e ws ts a) i None) y;
+  }
 
-  pub heard_more : (k : ℕ) (b c : Box) (os : List (Option Outcome)) (o : Option Outcome) → length xs ≡ 4 → length ts ≡ 4 → n ≤ 4 → k < n → HeardTo fits e n xs ts a k b os →
-      c ≡ after_one fits e (get_or xs k any_word) (get_or ts k 0) b → o ≡ outcome_if e (get_or xs k any_word) b → HeardTo fits e n xs ts a (k + 1) c (set os k o)
-  heard_more k b c os o l m few lt h p q =
-      let x = get_or xs k any_word in
+  pub heard_more : (k : ℕ) (b c : Box) (os : List (Option Outcome)) (o : Option Outcome) → k < 4 → k < length ws → k < length ts → HeardTo fits e ws ts a k b os →
+      c ≡ after_one fits e (get_or ws k any_word) (get_or ts k 0) b → o ≡ outcome_if e (get_or ws k any_word) b → HeardTo fits e ws ts a (k + 1) c (set os k o)
+  heard_more k b c os o few lt m h p q =
+      let x = get_or ws k any_word in
       let u = after_one fits e x (get_or ts k 0) b in
-      let all = outcomes_in fits e n xs ts a in
-      let rest = outcomes_in fits e (n - (k + 1)) (drop (k + 1) xs) (drop (k + 1) ts) u in
-      let step = outcome_step fits e n k xs ts b l m few lt in
-      let ids = ids_length xs ∙ l in
+      let all = outcomes fits e ws ts a in
+      let step = outcome_step fits e k ws ts b lt m in
       record {
-        leads = h.leads ∙ take_step fits e n k xs ts b l m few lt ∙ ap (λ (v : Box). takes_all fits e (words_in (n - (k + 1)) (drop (k + 1) xs)) (take (n - (k + 1)) (drop (k + 1) ts)) v) (sym p);
+        leads = h.leads ∙ take_step fits e k ws ts b lt m ∙ ap (λ (v : Box). takes_from fits e (k + 1) ws ts v) (sym p);
         same = subst (SameRoads a) (sym p) (roads_on a b u h.same (marked_roads fits e (item_of x) b (takes_item e (item_of x) (get_or ts k 0) b) (taken_roads e (item_of x) (get_or ts k 0) b)));
-        good = (none_later (is_out a.n) n k (ids_of xs) ids few lt h.good.0, none_later is_spent n k (ids_of xs) ids few lt h.good.1);
+        good = (none_later (λ y. is_out a.n y.id) any_word ws k lt h.good.0, none_later (λ y. is_spent y.id) any_word ws k lt h.good.1);
         room = length-set os k o ∙ h.room;
         done = below_more _ _
             (λ j i. let ne : j ≢ k = omega arith in get_or-set_other os k j o None ne ∙ h.done j i)
@@ -148,18 +155,18 @@ module _ (fits : Bool) (e n : ℕ) (xs : List Word) (ts : List ℕ) (a : Box) wh
         later = λ j.
             let at : (k + 1) + j ≡ k + suc j = omega arith in
             ap (λ (i : ℕ). get_or all i None) at ∙ h.later (suc j) ∙ ap (λ (ys : List (Option Outcome)). get_or ys (suc j) None) step
-            ∙ ap (λ (v : Box). get_or (outcomes_in fits e (n - (k + 1)) (drop (k + 1) xs) (drop (k + 1) ts) v) j None) (sym p);
+            ∙ ap (λ (v : Box). get_or (outcomes fits e (drop (k + 1) ws) (drop (k + 1) ts) v) j None) (sym p);
       }
 
-  pub heard_end : (k : ℕ) (b : Box) (os : List (Option Outcome)) → n ≤ k → HeardTo fits e n xs ts a k b os → b ≡ takes_all fits e (words_in n xs) (take n ts) a
-  heard_end k b os l h = sym (h.leads ∙ take_end fits e n k xs ts b l)
+  pub heard_end : (k : ℕ) (b : Box) (os : List (Option Outcome)) → length ws ≤ k → HeardTo fits e ws ts a k b os → b ≡ takes_all fits e (map item_of ws) ts a
+  heard_end k b os l h = sym (h.leads ∙ take_end fits e k ws ts b l)
 
-  pub outcomes_end : (k : ℕ) (b : Box) (os : List (Option Outcome)) → n ≤ k → HeardTo fits e n xs ts a k b os → (j : ℕ) → get_or os j None ≡ get_or (outcomes_in fits e n xs ts a) j None
+  pub outcomes_end : (k : ℕ) (b : Box) (os : List (Option Outcome)) → length ws ≤ k → HeardTo fits e ws ts a k b os → (j : ℕ) → get_or os j None ≡ get_or (outcomes fits e ws ts a) j None
   outcomes_end k b os l h j = go (ltb j k) refl
     where
-      go : (t : Bool) → ltb j k ≡ t → get_or os j None ≡ get_or (outcomes_in fits e n xs ts a) j None
+      go : (t : Bool) → ltb j k ≡ t → get_or os j None ≡ get_or (outcomes fits e ws ts a) j None
       go true q = h.done j (ltb-true j k q)
       go false q =
           let past : k ≤ j = ltb-false j k q in
           let at : j ≡ k + (j - k) = omega arith in
-          h.none j past ∙ sym (ap (λ (i : ℕ). get_or (outcomes_in fits e n xs ts a) i None) at ∙ h.later (j - k) ∙ ap (λ (ys : List (Option Outcome)). get_or ys (j - k) None) (outcome_end fits e n k xs ts b l))
+          h.none j past ∙ sym (ap (λ (i : ℕ). get_or (outcomes fits e ws ts a) i None) at ∙ h.later (j - k) ∙ ap (λ (ys : List (Option Outcome)). get_or ys (j - k) None) (outcome_end fits e k ws ts b l))

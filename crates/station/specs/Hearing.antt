@@ -1,9 +1,9 @@
 -- What a packet of words leaves, and what is answered. Assumes nothing.
 use Rattle.std.specs.Prelude.{◌≡◌, ℕ, zero, suc, ◌<◌, ◌≤◌, Bool, cond, List, [], ◌∷◌, ◌++◌, length, Some, None, Option, ◌==◌, slice_index_or}
-use Rattle.messages.specs.declared.values.Seens.{Seens}
+use Rattle.messages.specs.Values.{ids_of}
+use Rattle.messages.specs.Packets.{Seens}
 use Rattle.messages.specs.declared.values.Word.{Word}
-use Rattle.messages.specs.declared.values.WordId.{WordId}
-use Rattle.messages.specs.declared.values.Words.{Words}
+use Rattle.messages.specs.Packets.{Words}
 use Rattle.model.specs.Box.{Box}
 use Rattle.router.specs.State.{outcome_of}
 use Rattle.router.specs.declared.answers.Outcome.{Outcome}
@@ -12,11 +12,6 @@ use Rattle.linkmodel.specs.Station.{Bundle, Out, Shows, Sight, Station as Whole,
 use Rattle.station.specs.Packets.{no_id, packet_refusal, seens_of, sights_in}
 use Rattle.station.specs.Ticking.{item_of, packet_on}
 use Rattle.station.specs.declared.answers.Refusal.{Refusal}
-
--- the numbers of these words
-unfoldable pub ids_of : List Word → List WordId
-ids_of [] = []
-ids_of (x ∷ xs) = x.id ∷ ids_of xs
 
 abbrev pub words_refusal : ℕ → Words → Whole → Option Refusal
 words_refusal w p s = packet_refusal s.box.n (teller w s.links) p.count (ids_of p.items)

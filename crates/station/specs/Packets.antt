@@ -1,7 +1,8 @@
 -- Packets as the model has them, and why one is refused. Assumes nothing.
-use Rattle.std.specs.Prelude.{◌≡◌, ℕ, zero, suc, ◌^◌, Bool, false, cond, not, ◌||◌, List, [], ◌∷◌, Some, None, Option, ◌==◌, nat_le, nat_lt}
-use Rattle.messages.specs.declared.values.Seens.{Seens}
+use Rattle.std.specs.Prelude.{◌≡◌, ℕ, zero, suc, ◌^◌, ◌<◌, Bool, false, cond, not, ◌||◌, List, [], ◌∷◌, Some, None, Option, ◌==◌, nat_le, nat_lt}
+use Rattle.messages.specs.Packets.{Seens}
 use Rattle.messages.specs.declared.values.WordId.{WordId}
+use Rattle.model.specs.Box.{Box}
 use Rattle.linkmodel.specs.Station.{Seens as Sights, Sight, Station as Whole, heard_seens, teller}
 use Rattle.station.specs.declared.answers.Refusal.{Refusal}
 use Rattle.station.specs.declared.answers.Refusal.TheVariants.{OutOfRange, NoRoad, CountSpent}
@@ -42,6 +43,10 @@ is_spent x = nat_le (2 ^ 63) x.count
 -- all of the first k are in range, and their counts can be said
 abbrev pub AllGood : ℕ → ℕ → List WordId → Type 0
 AllGood n k xs = (any_in (is_out n) k xs ≡ false) × (any_in is_spent k xs ≡ false)
+
+-- the road to e is open, and all of the first k that come over it are good
+abbrev pub GoodFrom : ℕ → ℕ → List WordId → Box → Type 0
+GoodFrom e k xs b = (e < b.n) × ((0 < b.cost e) × AllGood b.n k xs)
 
 -- who tells, if a road is open to somebody on that wire
 abbrev pub road_refusal : Option ℕ → Option Refusal → Option Refusal

@@ -1,11 +1,14 @@
 -- What the state and the answers of a whole box stand for in the model. Assumes nothing.
-use Rattle.std.specs.Prelude.{◌≡◌, ℕ, cond, Some, None, Ok, Err, Option, Result, nat_lt}
+use Rattle.std.specs.Prelude.{ℕ, cond, Some, None, Option, nat_lt}
 use Rattle.hello.specs.State.{fall_refusal, hears_refusal, new_refusal, settings_refusal}
 use Rattle.hello.specs.declared.answers.Refusal.{Refusal as WireRefusal}
 use Rattle.hello.specs.declared.answers.Refusal.TheVariants.{OutOfRange as NoSuch, OtherBox as Another, Spent}
 use Rattle.linkmodel.specs.Links.{Hello, Links, road_cost}
 use Rattle.linkmodel.specs.Station.{Station as Whole, wire_to}
+pub use Rattle.messages.specs.Refusals.{RefusedBy}
 use Rattle.messages.specs.declared.values.Settings.{Settings}
+use Rattle.router.specs.declared.answers.Refusal.{Refusal as WordRefusal}
+use Rattle.router.specs.declared.answers.Refusal.TheVariants.{OutOfRange as OutOf, NoRoad as Closed, CountSpent as SpentCount}
 use Rattle.station.specs.Parts.{parts_of}
 use Rattle.station.specs.declared.answers.Refusal.{Refusal}
 use Rattle.station.specs.declared.answers.Refusal.TheVariants.{OutOfRange, NoRoad, OtherBox, CountSpent}
@@ -14,11 +17,6 @@ use Rattle.station.specs.declared.state.Station.{Station}
 -- the whole box of the model that a state stands for
 abbrev pub station_of : Station → Whole
 station_of s = parts_of s.links s.router
-
--- an answer is refused exactly where there is a reason, and for that reason
-abbrev pub RefusedBy : {A : Type 0} → Option Refusal → Result A Refusal → Type 0
-RefusedBy why (Ok x) = why ≡ None
-RefusedBy why (Err e) = why ≡ Some e
 
 -- the number of each refusal
 abbrev pub refusal_number : Refusal → ℕ
@@ -32,6 +30,12 @@ abbrev pub of_wires : WireRefusal → Refusal
 of_wires NoSuch = OutOfRange
 of_wires Another = OtherBox
 of_wires Spent = OutOfRange
+
+-- and one of the words
+abbrev pub of_words : WordRefusal → Refusal
+of_words OutOf = OutOfRange
+of_words Closed = NoRoad
+of_words SpentCount = CountSpent
 
 abbrev pub by_wires : Option WireRefusal → Option Refusal
 by_wires None = None

@@ -4,7 +4,7 @@ use Rattle.hello.specs.State.{greeting_of, tick_refusal}
 use Rattle.messages.specs.Values.{entry_of}
 use Rattle.messages.specs.declared.values.Hello.{Hello}
 use Rattle.messages.specs.declared.values.Word.{Word}
-use Rattle.messages.specs.declared.values.Words.{Words}
+use Rattle.messages.specs.Packets.{Words}
 use Rattle.model.specs.Box.{Box, must_say, tells}
 use Rattle.linkmodel.specs.Links.{Links, road_cost, who_on}
 use Rattle.linkmodel.specs.Station.{Bundle, Greets, Item, Out, Station as Whole, Tells, can_say, items_of, tells_every, wire_to}

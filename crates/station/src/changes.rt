@@ -11,7 +11,6 @@ ghost use Rattle.model.specs.Words.{Falls};
 ghost use Rattle.station.specs.Events.{Did};
 ghost use Rattle.station.specs.State.{RefusedBy, begin_refusal, falls_refusal, hello_refusal, rewire_refusal, station_of};
 
-use crate::answers;
 use crate::answers::Refusal;
 use crate::state::Station;
 use hello::Links;
@@ -22,24 +21,16 @@ use router::Router;
 fn all_roads(links: Links) -> [u16; 64]
     ensures { (e : ℕ) → e < 64 → at result e ≡ road_cost e (links_of links) }
 {
-    let mut roads = [0u16; 64];
-    for e in 0u8..64 {
-        roads[e as usize] = links.road(e);
-    }
-    roads
+    std::array::from_fn(|e| links.road(e as u8))
 }
 
 // The boxes of which another drawn number was heard.
 fn heard_anew(before: Links, after: Links) -> u64
     ensures { (e : ℕ) → e < 64 → bit result e ≡ not ((links_of before).last e == (links_of after).last e) }
 {
-    let mut anew = 0u64;
-    for e in 0u8..64 {
-        if before.last(e) != after.last(e) {
-            anew = bits::with_bit(anew, e);
-        }
-    }
-    anew
+    (0..64)
+        .filter(|e| before.last(*e) != after.last(*e))
+        .fold(0, |anew, e| bits::with_bit(anew, e))
 }
 
 impl Station {
@@ -49,13 +40,9 @@ impl Station {
         ensures is { IfOk result (λ s. station_of s ≡ station n me drawn) }
         ensures so { IfOk result (λ s. Stands (station_of s).box []) }
     {
-        match Links::new(n, me, drawn) {
-            Err(refusal) => Err(answers::by_wires(refusal)),
-            Ok(links) => match Router::begin(n, me) {
-                Err(_) => Err(Refusal::OutOfRange),
-                Ok(router) => Ok(Station::settled(links, router)),
-            },
-        }
+        let links = Links::new(n, me, drawn)?;
+        let router = Router::begin(n, me)?;
+        Ok(Station::settled(links, router))
     }
 
     // Its wires are these now, and its roads with them.
@@ -74,10 +61,8 @@ impl Station {
         ensures is { IfOk result (λ s. station_of s ≡ heard_hello wire (greeting_of hello) (station_of self)) }
         ensures so { IfOk result (λ s. Did (station_of self) (relinks (station_of self).links (hears_hello wire (greeting_of hello) (station_of self).links) (station_of self).box.n) (station_of s)) }
     {
-        match self.links.hears(wire, hello) {
-            Ok(links) => Ok(self.relinked(links)),
-            Err(refusal) => Err(answers::by_wires(refusal)),
-        }
+        let links = self.links.hears(wire, hello)?;
+        Ok(self.relinked(links))
     }
 
     // The wires cost what the settings say.
@@ -86,10 +71,8 @@ impl Station {
         ensures is { IfOk result (λ s. station_of s ≡ has_costs (at settings.costs) (station_of self)) }
         ensures so { IfOk result (λ s. Did (station_of self) (relinks (station_of self).links (rewired (at settings.costs) (station_of self).links) (station_of self).box.n) (station_of s)) }
     {
-        match self.links.rewire(settings) {
-            Ok(links) => Ok(self.relinked(links)),
-            Err(refusal) => Err(answers::by_wires(refusal)),
-        }
+        let links = self.links.rewire(settings)?;
+        Ok(self.relinked(links))
     }
 
     // It falls, and draws a new number: its roads close, and all that it knew is gone.
@@ -98,9 +81,7 @@ impl Station {
         ensures is { IfOk result (λ s. station_of s ≡ falls drawn (station_of self)) }
         ensures so { IfOk result (λ s. Did (station_of self) (Falls (station_of self).box.me ∷ relinks (station_of self).links (fell drawn (station_of self).links) (station_of self).box.n) (station_of s)) }
     {
-        match self.links.falls(drawn) {
-            Ok(links) => Ok(Station::settled(links, self.router.falls())),
-            Err(refusal) => Err(answers::by_wires(refusal)),
-        }
+        let links = self.links.falls(drawn)?;
+        Ok(Station::settled(links, self.router.falls()))
     }
 }

@@ -1,22 +1,25 @@
 // A packet of words comes.
-ghost use Rattle.std.specs.Prelude.{◌≡◌, ℕ, ◌<◌, ◌≤◌, take, IfOk, None, ◌==◌, slice_index_or};
+ghost use Rattle.std.specs.Prelude.{◌≡◌, ℕ, ◌<◌, take, IfOk, None, ◌==◌, slice_index_or};
 ghost use Rattle.hello.specs.State.{links_of};
 ghost use Rattle.linkmodel.specs.Station.{answers, heard_words, news_for, seens_for, teller, wire_to};
+ghost use Rattle.linkmodel.specs.Links.{road_cost};
+ghost use Rattle.messages.specs.Values.{ids_of};
 ghost use Rattle.station.specs.Events.{AnswersDid, WordsDid};
-ghost use Rattle.station.specs.Hearing.{Showing, answer_on, answers_from, ids_of, outcomes_from, outcomes_in, wire_back, words_from, words_refusal};
-ghost use Rattle.station.specs.Packets.{AllGood};
+ghost use Rattle.station.specs.Hearing.{Showing, answer_on, answers_from, outcomes_from, outcomes_in, wire_back, words_from, words_refusal};
+ghost use Rattle.station.specs.Packets.{GoodFrom};
 ghost use Rattle.station.specs.State.{RefusedBy, station_of};
 ghost use Rattle.station.specs.Ticking.{Carries, bundle_of};
 
 use crate::answers::Refusal;
 use crate::state::Station;
-use crate::{answering, taking};
+use crate::taking;
 use hello::Links;
 use messages::{Seens, Words};
 use router::Outcome;
 
 // What a packet of words did: the new state, the answers and the wire that they go out on, and what became of each word. A packet of none doesn't go out.
-#[derive(Clone, Copy)]
+// Kept: no Option around a packet, since it is filled from none on, and who sends it asks its count where it would ask the Option.
+#[derive(Clone, Copy, Debug, PartialEq, Eq)]
 pub struct Heard {
     pub station: Station,
     pub wire: u8,
@@ -25,20 +28,18 @@ pub struct Heard {
     pub outcomes: [Option<Outcome>; 4],
 }
 
-// The lowest wire over which the road to a box is open, 8 if there is none.
+// The lowest wire over which the road to a box is open, if it is open at all.
 fn lowest(links: Links, to: u8) -> u8
+    requires { 0 < road_cost to (links_of links) }
     ensures { result ≡ wire_to to (links_of links) }
 {
-    match links.wire_to(to) {
-        Some(wire) => wire,
-        None => 8,
-    }
+    links.wire_to(to).unwrap()
 }
 
 impl Station {
     // A packet that isn't refused: its words are taken first, and the answers are of what the box has then.
     fn heard(self, from: u8, words: Words, tags: [u64; 4]) -> Heard
-        requires { (words.count ≤ 4) × ((from < (station_of self).box.n) × ((0 < (station_of self).box.cost from) × (AllGood (station_of self).box.n words.count (ids_of words.items)))) }
+        requires { GoodFrom from words.count (ids_of words.items) (station_of self).box }
         ensures is { station_of result.station ≡ heard_words from (bundle_of words) (take words.count tags) (station_of self) }
         ensures wire { result.wire ≡ wire_to from (station_of result.station).links }
         ensures seens { Showing result.seens (station_of result.station).links.drawn (seens_for (bundle_of words).items (station_of result.station).box) }
@@ -49,12 +50,11 @@ impl Station {
         let fits = words.drawn == self.links.last(from);
         let (router, outcomes) = taking::hear_all(self.router, from, words, tags, fits);
         let station = Station::settled(self.links, router);
-        let drawn = station.links.drawn();
         Heard {
             station,
             wire: lowest(station.links, from),
-            seens: answering::seens_for(station.router, drawn, words),
-            words: answering::news_for(station.router, drawn, words),
+            seens: station.seens_for(words),
+            words: station.news_for(words),
             outcomes,
         }
     }
@@ -71,9 +71,7 @@ impl Station {
         ensures sends { IfOk result (λ h. AnswersDid wire (bundle_of words) (station_of h.station)) }
         ensures out { IfOk result (λ h. answer_on h.wire h.seens h.words ≡ answers_from (teller wire (station_of self).links) (bundle_of words) (station_of h.station)) }
     {
-        match self.admits(wire, words.count, taking::ids_of(words.items)) {
-            Err(refusal) => Err(refusal),
-            Ok(from) => Ok(self.heard(from, words, tags)),
-        }
+        let from = self.admits(wire, words.count, words.ids())?;
+        Ok(self.heard(from, words, tags))
     }
 }

@@ -18,7 +18,7 @@ mod tellings;
 mod tests;
 mod ticking;
 
-pub use answers::{Refusal, refusal_number};
+pub use answers::Refusal;
 pub use hearing::Heard;
 pub use state::Station;
 pub use ticking::Ticked;

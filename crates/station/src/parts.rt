@@ -1,5 +1,5 @@
 // A box is put together from its wires and words, and asked for them.
-ghost use Rattle.std.specs.Prelude.{◌≡◌, ◌<◌, ◌≤◌};
+ghost use Rattle.std.specs.Prelude.{◌≡◌, ◌<◌, ◌≤◌, None};
 ghost use Rattle.hello.specs.State.{links_of};
 ghost use Rattle.linkmodel.specs.Calls.{Joined};
 ghost use Rattle.model.specs.Box.{hop_in, map_in};
@@ -9,7 +9,7 @@ ghost use Rattle.station.specs.State.{station_of, wire_open};
 
 use crate::state::Station;
 use hello::Links;
-use router::{Hop, Router};
+use router::Router;
 
 impl Station {
     // These wires and words, with the tables that belong to the words.
@@ -27,18 +27,13 @@ impl Station {
     }
 
     // These wires and words, where the words are those that it has: their tables stay.
-    pub(crate) fn rejoined(self, links: Links, router: Router) -> Station
+    pub(crate) fn rejoined(mut self, links: Links, router: Router) -> Station
         requires { (Joined (parts_of links router)) × ((map_in (box_of router) ≡ map_in (box_of self.router)) × ((box_of router).me ≡ (box_of self.router).me)) }
         ensures { station_of result ≡ parts_of links router }
     {
-        let far = self.far;
-        let next = self.next;
-        Station {
-            links,
-            router,
-            far,
-            next,
-        }
+        self.links = links;
+        self.router = router;
+        self
     }
 
     // Its wires.
@@ -55,24 +50,13 @@ impl Station {
         self.router
     }
 
-    // The next box towards another; nowhere if there is no way, to itself, and to a number of no box.
-    pub fn hands_on(self, to: u8) -> Hop
-        ensures inside { to < (station_of self).box.n → hop_of result ≡ hop_in to (station_of self).box }
-        ensures beyond { (station_of self).box.n ≤ to → result ≡ Hop.Nowhere }
+    // The next box towards another; none if there is no way, to itself, and to a number of no box.
+    pub fn hands_on(&self, to: u8) -> Option<u8>
+        ensures inside { to < (station_of self.now).box.n → hop_of result ≡ hop_in to (station_of self.now).box }
+        ensures beyond { (station_of self.now).box.n ≤ to → result ≡ None }
     {
         if to >= self.router.boxes() {
-            return Hop::Nowhere;
-        }
-        router::hop_at(self.next[to as usize])
-    }
-
-    // The next box towards another, for whoever has the box lent.
-    pub fn next_box(&self, to: u8) -> Hop
-        ensures inside { to < (station_of self.now).box.n → hop_of result ≡ hop_in to (station_of self.now).box }
-        ensures beyond { (station_of self.now).box.n ≤ to → result ≡ Hop.Nowhere }
-    {
-        if to >= 64 {
-            return Hop::Nowhere;
+            return None;
         }
         router::hop_at(self.next[to as usize])
     }
@@ -81,15 +65,8 @@ impl Station {
     pub fn open_wire(&self, to: u8) -> Option<u8>
         ensures { result ≡ wire_open to (station_of self.now).links }
     {
-        match self.links.wire_to(to) {
-            Some(wire) => {
-                if self.links.cost(wire) > 0 {
-                    Some(wire)
-                } else {
-                    None
-                }
-            }
-            None => None,
-        }
+        self.links
+            .wire_to(to)
+            .filter(|wire| self.links.cost(*wire) > 0)
     }
 }

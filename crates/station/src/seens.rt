@@ -1,10 +1,10 @@
 // A packet of seens comes.
-ghost use Rattle.std.specs.Prelude.{◌≡◌, ◌<◌, ◌≤◌, [], IfOk, None};
+ghost use Rattle.std.specs.Prelude.{◌≡◌, [], IfOk, None};
 ghost use Rattle.linkmodel.specs.Station.{sees_all, teller};
 ghost use Rattle.model.specs.Box.{sees};
 ghost use Rattle.router.specs.State.{box_of, id_refusal};
 ghost use Rattle.station.specs.Events.{Did};
-ghost use Rattle.station.specs.Packets.{AllGood, seens_from, seens_of, seens_refusal, sights_in};
+ghost use Rattle.station.specs.Packets.{GoodFrom, seens_from, seens_of, seens_refusal, sights_in};
 ghost use Rattle.station.specs.State.{RefusedBy, station_of};
 
 use crate::answers::Refusal;
@@ -17,20 +17,18 @@ pub(crate) fn seen_one(router: Router, from: u8, id: WordId) -> Router
     requires { id_refusal from id (box_of router) ≡ None }
     ensures { box_of result ≡ sees from id.about id.count id.tag (box_of router) }
 {
-    match router.seen(from, id) {
-        Ok(next) => next,
-        Err(_) => router,
-    }
+    router.seen(from, id).unwrap()
 }
 
-// It shows the first `count` of these.
-fn seen_all(router: Router, from: u8, count: u8, ids: [WordId; 4]) -> Router
-    requires { (count ≤ 4) × ((from < (box_of router).n) × ((0 < (box_of router).cost from) × (AllGood (box_of router).n count ids))) }
-    ensures { box_of result ≡ sees_all from (sights_in count ids) (box_of router) }
+// It shows those of a packet.
+fn seen_all(router: Router, from: u8, seens: Seens) -> Router
+    requires { GoodFrom from seens.count seens.items (box_of router) }
+    ensures { box_of result ≡ sees_all from (sights_in seens.count seens.items) (box_of router) }
 {
+    let shown = seens.held();
     let mut next = router;
-    for k in 0..count {
-        next = seen_one(next, from, ids[k as usize]);
+    for id in shown {
+        next = seen_one(next, from, *id);
     }
     next
 }
@@ -42,15 +40,11 @@ impl Station {
         ensures is { IfOk result (λ s. station_of s ≡ seens_from (teller wire (station_of self).links) (seens_of seens) (station_of self)) }
         ensures so { IfOk result (λ s. Did (station_of self) [] (station_of s)) }
     {
-        match self.admits(wire, seens.count, seens.items) {
-            Err(refusal) => Err(refusal),
-            Ok(from) => {
-                if seens.drawn != self.links.last(from) {
-                    return Ok(self);
-                }
-                let router = seen_all(self.router, from, seens.count, seens.items);
-                Ok(self.rejoined(self.links, router))
-            }
+        let from = self.admits(wire, seens.count, seens.items)?;
+        if seens.drawn != self.links.last(from) {
+            return Ok(self);
         }
+        let router = seen_all(self.router, from, seens);
+        Ok(self.rejoined(self.links, router))
     }
 }

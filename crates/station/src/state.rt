@@ -9,7 +9,7 @@ use hello::Links;
 use router::Router;
 
 // `links`: the wires. `router`: the roads that they hold open, and the words. `far`, `next`: how far each box is by these words, and the next box towards it.
-#[derive(Clone, Copy)]
+#[derive(Clone, Copy, Debug, PartialEq, Eq)]
 pub struct Station {
     pub(crate) links: Links,
     pub(crate) router: Router,

@@ -1,34 +1,23 @@
 // Two boxes on one wire.
-use crate::answers::Refusal;
 use crate::state::Station;
 use messages::Settings;
-use router::Hop;
 use std::test::Fail;
-
-fn granted<T: Drop>(answer: Result<T, Refusal>) -> Result<T, Fail> {
-    match answer {
-        Ok(value) => Ok(value),
-        Err(_) => Err(Fail::new("refused")),
-    }
-}
 
 // Box `me` of two, with a wire 2 that costs 7.
 fn wired(me: u8, drawn: u64) -> Result<Station, Fail> {
-    granted(granted(Station::new(2, me, drawn))?.rewire(Settings {
+    let station = Station::new(2, me, drawn)?;
+    Ok(station.rewire(Settings {
         boxes: 2,
         me,
         costs: [0, 0, 7, 0, 0, 0, 0, 0],
-    }))
+    })?)
 }
 
 // Each hears the hello of the other.
 fn greeted(a: Station, b: Station) -> Result<(Station, Station), Fail> {
     let from_a = a.links().hello_on(2).ok_or("no hello")?;
     let from_b = b.links().hello_on(2).ok_or("no hello")?;
-    Ok((
-        granted(a.hears_hello(2, from_b))?,
-        granted(b.hears_hello(2, from_a))?,
-    ))
+    Ok((a.hears_hello(2, from_b)?, b.hears_hello(2, from_a)?))
 }
 
 // Box 0 tells its word at the fifth tick; box 1, which has said its own, answers that it has it, and knows the way.
@@ -38,18 +27,18 @@ fn told_and_shown(rt: HostRuntime) -> Result<(), Fail> {
     let (a, b) = greeted(a, b)?;
     let mut a = a;
     for tag in 1..5 {
-        a = granted(a.tick(tag))?.station;
+        a = a.tick(tag)?.station;
     }
-    let told = granted(a.tick(5))?;
+    let told = a.tick(5)?;
     assert_eq!(rt; told.words[2].count, 1);
-    let b = granted(b.tick(6))?.station;
-    assert!(rt; matches!(b.hands_on(0), Hop::Nowhere));
-    let heard = granted(b.hears_words(2, told.words[2], [7, 8, 9, 10]))?;
-    assert!(rt; matches!(heard.station.hands_on(0), Hop::To(0)));
+    let b = b.tick(6)?.station;
+    assert_eq!(rt; b.hands_on(0), None);
+    let heard = b.hears_words(2, told.words[2], [7, 8, 9, 10])?;
+    assert_eq!(rt; heard.station.hands_on(0), Some(0));
     assert_eq!(rt; heard.wire, 2);
     assert_eq!(rt; heard.seens.count, 1);
     assert_eq!(rt; heard.words.count, 0);
-    let a = granted(told.station.hears_seens(2, heard.seens))?;
+    let a = told.station.hears_seens(2, heard.seens)?;
     assert!(rt; a.router().shown(1, 0));
     Ok(())
 }

@@ -6,7 +6,7 @@
 #[cfg(test)]
 mod tests;
 
-ghost use Rattle.std.specs.Prelude.{◌≡◌, ℕ, ◌<◌, true, false, ◌&&◌, List, length, slice_index_or};
+ghost use Rattle.std.specs.Prelude.{◌≡◌, ℕ, ◌<◌, true, false, ◌&&◌, List, length, slice_index_or, is_some, unwrap_or};
 ghost use Rattle.bits.specs.Bits.{padded};
 ghost use Rattle.model.specs.Box.{Stands, must_say, tells};
 ghost use Rattle.model.specs.Words.{Ev, is_in, world};
@@ -17,7 +17,7 @@ use bits::Picked;
 use router::Router;
 
 // What a tick did: the new state, whether the box said a word, and for each box what it tells that one.
-#[derive(Clone, Copy)]
+#[derive(Clone, Copy, Debug, PartialEq, Eq)]
 pub struct Ticked {
     pub router: Router,
     pub said: bool,
@@ -39,10 +39,7 @@ fn told(router: Router, to: u8) -> Picked
     if router.is_open(to) {
         tells(router, to)
     } else {
-        Picked {
-            count: 0,
-            items: [0; 4],
-        }
+        Picked::default()
     }
 }
 
@@ -50,27 +47,18 @@ fn told(router: Router, to: u8) -> Picked
 fn tellings(router: Router) -> [Picked; 64]
     ensures { (e : ℕ) → e < 64 → Names (slice_index_or result e no_place) (told_to e (box_of router)) }
 {
-    let mut all = [Picked {
-        count: 0,
-        items: [0; 4],
-    }; 64];
-    for e in 0u8..64 {
-        all[e as usize] = told(router, e);
-    }
-    all
+    std::array::from_fn(|e| told(router, e as u8))
 }
 
-// It says a word if it owes one, unless its count is spent; and whether it did.
-fn says_owed(router: Router, tag: u64) -> (Router, bool)
-    ensures is { box_of result.0 ≡ ticked_if tag (box_of router) }
-    ensures said { result.1 ≡ (must_say (box_of router) && has_room (box_of router)) }
+// It says a word if it owes one, unless its count is spent; none where it says none.
+pub fn says_owed(router: Router, tag: u64) -> Option<Router>
+    ensures said { is_some result ≡ (must_say (box_of router) && has_room (box_of router)) }
+    ensures is { box_of (unwrap_or result router) ≡ ticked_if tag (box_of router) }
 {
-    if !router.owes() {
-        return (router, false);
-    }
-    match router.says(tag) {
-        Ok(next) => (next, true),
-        Err(_) => (router, false),
+    if router.owes() {
+        router.says(tag).ok()
+    } else {
+        None
     }
 }
 
@@ -81,10 +69,11 @@ pub fn tick(router: Router, tag: u64) -> Ticked
     ensures telling { (e : ℕ) → e < 64 → Names (slice_index_or result.telling e no_place) (told_to e (ticked_if tag (box_of router))) }
     ensures so { has_room (box_of router) ≡ true → (es : List Ev) → Stands (box_of router) es → is_in tag (world (box_of router).n es).drawn ≡ false → TickDid tag (box_of router) (box_of result.router) es }
 {
-    let (next, said) = says_owed(router, tag);
+    let said = says_owed(router, tag);
+    let next = said.unwrap_or(router);
     Ticked {
         router: next,
-        said,
+        said: said.is_some(),
         telling: tellings(next),
     }
 }

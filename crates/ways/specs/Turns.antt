@@ -1,5 +1,5 @@
 -- What each part of a turn does to the numbers. Assumes nothing.
-use Rattle.std.specs.Prelude.{◌≡◌, ℕ, ◌+◌, ◌≤◌, Bool, cond, not, ◌&&◌, List, ◌==◌, nat_lt, slice_index, slice_index_or}
+use Rattle.std.specs.Prelude.{◌≡◌, ℕ, ◌+◌, ◌<◌, ◌≤◌, Option, MatchOption, Bool, cond, not, ◌&&◌, List, ◌==◌, nat_lt, slice_index, slice_index_or}
 use Rattle.ways.specs.Numbers.{road_by}
 
 -- the open distance at a box, offered another
@@ -30,3 +30,9 @@ pub record Begun (costs : List (List ℕ)) (me : ℕ) (edge next edge'' next'' :
   pub edges : slice_index_or edge'' e 0 ≡ cond (begins costs me e) (road_by costs me e) (slice_index edge e)
   pub nexts : slice_index_or next'' e 0 ≡ cond (begins costs me e) e (slice_index next e)
   pub small : road_by costs me e ≤ 65535
+
+-- the nearest of the first n boxes whose open distance is neither 0 nor never, or none if there is no such box
+abbrev pub Nearest : ℕ → List ℕ → Option ℕ → Type 0
+Nearest n edge near = MatchOption near
+    ((k : ℕ) → k < n → 0 < slice_index edge k → 4294967295 ≤ slice_index edge k)
+    (λ v. (v < n) × (0 < slice_index edge v) × (slice_index edge v < 4294967295) × ((k : ℕ) → k < n → 0 < slice_index edge k → slice_index edge v ≤ slice_index edge k))

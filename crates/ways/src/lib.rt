@@ -6,10 +6,12 @@
 #![tactic(auto)]
 
 ghost use Rattle.std.specs.Prelude.{◌≡◌, ℕ, ◌+◌, ◌<◌, ◌≤◌, length, ◌≢◌, slice_index, slice_set};
-ghost use Rattle.ways.specs.Turns.{less_of, next_of, After, Same, Begun};
+ghost use Rattle.ways.specs.Turns.{less_of, next_of, After, Same, Begun, Nearest};
 ghost use Rattle.ways.specs.Numbers.{road_by, map_on, map_by};
-ghost use Rattle.ways.specs.Refusals.{outcome_of, why_not};
+ghost use Rattle.ways.specs.Refusals.{number_of, outcome_of, why_not};
 ghost use Rattle.ways.specs.Table.{Found};
+
+// Kept: numbers for "no way" and "no box" in place of Options, since the C interface fills slices of plain numbers.
 
 /// Stands for "no way" among distances.
 pub const NEVER: u32 = 4_294_967_295;
@@ -36,9 +38,22 @@ pub enum Refusal {
     Length,
 }
 
+/// The number of each refusal.
+impl From<Refusal> for u8 {
+    ghost from_gives = { λ r n. n ≡ number_of r };
+
+    fn from(refusal: Refusal) -> u8 {
+        match refusal {
+            Refusal::Size => 1,
+            Refusal::Place => 2,
+            Refusal::Length => 3,
+        }
+    }
+}
+
 // What the road from a to e costs, 0 if not both ends have it.
-fn road(costs: &[[u16; 64]], a: usize, e: usize) -> u16
-    requires { (length costs.now ≡ 64) × ((a < 64) × (e < 64)) }
+fn road(costs: &[[u16; 64]; 64], a: usize, e: usize) -> u16
+    requires { (a < 64) × (e < 64) }
     ensures { result ≡ road_by costs.now a e }
 {
     let c = costs[a][e];
@@ -53,39 +68,30 @@ fn rank(far: u32) -> u32
     far.wrapping_sub(1)
 }
 
-// The nearest open box, n if none is.
-fn nearest(n: usize, edge: &[u32; 64]) -> usize
+// The nearest open box, if one is open.
+// Kept: numbers that index `edge`. Tried was `edge[..n].iter().enumerate()` before `min_by_key`, and the proof that no other open box is nearer didn't close.
+fn nearest(n: usize, edge: &[u32; 64]) -> Option<usize>
     requires { n ≤ 64 }
-    ensures within { result ≤ n }
-    ensures reached { result < n → (0 < slice_index edge.now result) × (slice_index edge.now result < 4294967295) }
-    ensures least { result < n → (k : ℕ) → k < n → 0 < slice_index edge.now k → slice_index edge.now result ≤ slice_index edge.now k }
-    ensures none { result ≡ n → (k : ℕ) → k < n → 0 < slice_index edge.now k → 4294967295 ≤ slice_index edge.now k }
+    ensures { Nearest n edge.now result }
 {
-    let mut v = n;
-    let mut best = NEVER - 1;
-    for e in 0..n {
-        let here = rank(edge[e]);
-        if here < best {
-            best = here;
-            v = e;
-        }
-    }
-    v
+    (0..n)
+        .min_by_key(|e| rank(edge[*e]))
+        .filter(|e| rank(edge[*e]) < NEVER - 1)
 }
 
 // Offers box e the way over its neighbour v, which is at distance best and has the next box first.
 // A nearer way replaces what e has; of ways as near the lower next box stays. No offer is below 0, so none changes a box gone through.
+// Kept: `costs`, `edge` and `next` go side by side. A struct of them would hold a `&mut`, and each function that takes it would have to ensure as well that it still lends the same table.
 fn offer(
     e: usize,
     v: usize,
     best: u32,
     first: u8,
-    costs: &[[u16; 64]],
+    costs: &[[u16; 64]; 64],
     edge: &mut [u32; 64],
-    next: &mut [u8],
+    next: &mut [u8; 64],
 )
-    requires e_bound { (e < 64) × ((v < 64) × (best ≤ 4194240)) }
-    requires costs_len { (length costs.now ≡ 64) × (length next.old ≡ 64) }
+    requires { (e < 64) × ((v < 64) × (best ≤ 4194240)) }
     ensures after { After costs.now v best first edge.old next.old edge.new next.new e }
     ensures others { (k : ℕ) → (k ≢ e) → Same edge.old next.old edge.new next.new k }
 {
@@ -107,12 +113,11 @@ fn relax(
     v: usize,
     best: u32,
     first: u8,
-    costs: &[[u16; 64]],
+    costs: &[[u16; 64]; 64],
     edge: &mut [u32; 64],
-    next: &mut [u8],
+    next: &mut [u8; 64],
 )
-    requires n_bound { (n ≤ 64) × ((v < n) × (best ≤ 4194240)) }
-    requires costs_len { (length costs.now ≡ 64) × (length next.old ≡ 64) }
+    requires { (n ≤ 64) × ((v < n) × (best ≤ 4194240)) }
     ensures after { (k : ℕ) → k < n → After costs.now v best first edge.old next.old edge.new next.new k }
     ensures rest { (k : ℕ) → n ≤ k → Same edge.old next.old edge.new next.new k }
 {
@@ -122,20 +127,18 @@ fn relax(
 }
 
 // Writes "never" and "none" everywhere.
-fn clear(dist: &mut [u32], next: &mut [u8])
-    requires { (length dist.old ≡ 64) × (length next.old ≡ 64) }
+fn clear(dist: &mut [u32; 64], next: &mut [u8; 64])
     ensures dists { (k : ℕ) → k < 64 → slice_index dist.new k ≡ 4294967295 }
     ensures nexts { (k : ℕ) → k < 64 → slice_index next.new k ≡ 255 }
 {
-    for e in 0..64 {
-        dist[e] = NEVER;
-        next[e] = NONE;
-    }
+    dist.fill(NEVER);
+    next.fill(NONE);
 }
 
 // The first turn, at me: the ends of its roads are open, each its own next box.
-fn begin(n: usize, me: usize, costs: &[[u16; 64]], edge: &mut [u32; 64], next: &mut [u8])
-    requires { (n ≤ 64) × ((me < n) × ((length costs.now ≡ 64) × (length next.old ≡ 64))) }
+// Kept: a loop over numbers, since a turn reads a row and a column of `costs` and writes two arrays, so that zipped iterators would need the number too.
+fn begin(n: usize, me: usize, costs: &[[u16; 64]; 64], edge: &mut [u32; 64], next: &mut [u8; 64])
+    requires { (n ≤ 64) × (me < n) }
     ensures begun { (k : ℕ) → k < n → Begun costs.now me edge.old next.old edge.new next.new k }
     ensures rest { (k : ℕ) → n ≤ k → Same edge.old next.old edge.new next.new k }
 {
@@ -149,8 +152,8 @@ fn begin(n: usize, me: usize, costs: &[[u16; 64]], edge: &mut [u32; 64], next: &
 }
 
 // Goes through box v: its open distance is its distance, and 0 stands for it among the open ones.
-fn settle(v: usize, edge: &mut [u32; 64], dist: &mut [u32]) -> u32
-    requires { (v < 64) × (length dist.old ≡ 64) }
+fn settle(v: usize, edge: &mut [u32; 64], dist: &mut [u32; 64]) -> u32
+    requires { v < 64 }
     ensures best { result ≡ slice_index edge.old v }
     ensures edges { edge.new ≡ slice_set edge.old v 0 }
     ensures dists { dist.new ≡ slice_set dist.old v result }
@@ -162,8 +165,8 @@ fn settle(v: usize, edge: &mut [u32; 64], dist: &mut [u32]) -> u32
 }
 
 // Goes through the boxes in the order of their distances from me. Each turn goes through one more, so n turns are enough.
-fn walk(n: usize, me: usize, costs: &[[u16; 64]], dist: &mut [u32], next: &mut [u8])
-    requires { (n ≤ 64) × ((me < n) × ((length costs.now ≡ 64) × ((length dist.old ≡ 64) × (length next.old ≡ 64)))) }
+fn walk(n: usize, me: usize, costs: &[[u16; 64]; 64], dist: &mut [u32; 64], next: &mut [u8; 64])
+    requires { (n ≤ 64) × (me < n) }
     ensures { Found (map_on n costs.now) me dist.new next.new }
 {
     let mut edge = [NEVER; 64];
@@ -172,10 +175,9 @@ fn walk(n: usize, me: usize, costs: &[[u16; 64]], dist: &mut [u32], next: &mut [
     edge[me] = 0;
     begin(n, me, costs, &mut edge, next);
     'near: for _turn in 1..n {
-        let v = nearest(n, &edge);
-        if v == n {
+        let Some(v) = nearest(n, &edge) else {
             break 'near;
-        }
+        };
         let best = settle(v, &mut edge, dist);
         relax(n, v, best, next[v], costs, &mut edge, next);
     }
@@ -202,11 +204,19 @@ pub fn least_ways(
     if me >= n {
         return Err(Refusal::Place);
     }
-    let words_fit = words.counts.len() == 64 && words.tags.len() == 64 && words.costs.len() == 64;
-    if !words_fit || dist.len() != 64 || next.len() != 64 {
+    if words.counts.len() != 64 || words.tags.len() != 64 {
         return Err(Refusal::Length);
     }
-    walk(n as usize, me as usize, words.costs, dist, next);
+    let Some(costs) = words.costs.as_array() else {
+        return Err(Refusal::Length);
+    };
+    let Some(dist) = dist.as_mut_array() else {
+        return Err(Refusal::Length);
+    };
+    let Some(next) = next.as_mut_array() else {
+        return Err(Refusal::Length);
+    };
+    walk(n as usize, me as usize, costs, dist, next);
     Ok(())
 }
 

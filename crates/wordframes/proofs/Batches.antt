@@ -4,12 +4,12 @@ use Rattle.std.specs.List.{flat_map}
 use Rattle.std.proofs.lemmas.Bool.{le-leb, leb-true, and_from, and_parts, cases_lt}
 use Rattle.std.proofs.lemmas.List.{take-append-drop, take_all, take_at, drop_at, length-take-le, length-replicate, get_or-take, get_or-drop, get_or-replicate, get_or_past, get_or_append_left}
 use Rattle.octets.specs.declared.Fault.TheVariants.{Form, Count}
-use Rattle.octets.specs.Reads.{Read, ◌>>=◌, ◌>>◌, onward, unless, give, byte, positive, many, end}
+use Rattle.octets.specs.Reads.{Read, onward, unless, give, byte, positive, many, end}
 use Rattle.octets.specs.Writes.{Bytes, octets}
 use Rattle.octets.proofs.Parts.{both, step, test, byte_read, end_read}
 use Rattle.octets.proofs.Numbers.{positive_octets, positive_read}
 use Rattle.octets.proofs.Many.{Item, many_joined, many_read}
-use Rattle.wordframes.specs.Reading.{each, how_many, padded}
+use Rattle.wordframes.specs.Reading.{batch_in, each, how_many, padded}
 
 each_from : {A : Type 0} (t : A → Bool) (d : A) (xs : List A) → ((i : ℕ) → i < length xs → t (get_or xs i d) ≡ true) → each t xs ≡ true
 each_from t d [] h = refl
@@ -43,18 +43,7 @@ how_only bytes k left b h =
       bytes_left = subst Bytes e.1 r.bytes_left;
     }
 
--- the reader and the bytes, after the kind and to the end
-abbrev pub batch_in : {A B : Type 0} → Read A → A → (A → Bool) → (ℕ → ℕ → List A → B) → Read B
-batch_in p blank low make = do
-  drawn ← positive 8
-  count ← how_many
-  items ← (do
-    xs ← many count p
-    give (padded blank xs))
-  end
-  unless Count (each low items)
-  give (make drawn count items)
-
+-- the bytes, after the kind and to the end
 abbrev pub bytes_of_batch : {A : Type 0} → (A → List ℕ) → ℕ → ℕ → List A → List ℕ
 bytes_of_batch w drawn count items = octets 8 drawn ++ (count ∷ flat_map w (take count items))
 

@@ -1,6 +1,5 @@
 pub mod Lengths
 pub mod Filling
-pub mod Each
 pub mod Roads
 pub mod Triples
 pub mod RoadsAgain

@@ -2,8 +2,8 @@
 use Rattle.std.specs.Prelude.{◌≡◌, ℕ, ◌-◌, ◌^◌, ◌<◌, ◌≤◌, length, drop, replicate, ◌≢◌, slice_index, slice_index_or}
 use Rattle.messages.specs.declared.values.Word.{Word}
 use Rattle.messages.specs.declared.values.WordId.{WordId}
-use Rattle.messages.specs.declared.values.Seens.{Seens}
-use Rattle.messages.specs.declared.values.Words.{Words}
+use Rattle.messages.specs.Packets.{Seens}
+use Rattle.messages.specs.Packets.{Words}
 use Rattle.wordframes.specs.Reading.{blank_id, blank_word}
 use Rattle.wordframes.specs.Writing.{roads_to}
 

@@ -1,12 +1,15 @@
 -- What a list of bytes is read as: a value, or the fault of the first group of bytes that is wrong.
 -- Assumes nothing.
-use Rattle.std.specs.Prelude.{ℕ, ◌+◌, ◌-◌, ◌^◌, Bool, true, not, ◌&&◌, List, [], ◌∷◌, ◌++◌, length, replicate, ◌==◌, nat_le, nat_lt, slice_set}
+use Rattle.std.specs.Prelude.{ℕ, ◌+◌, ◌-◌, Bool, not, ◌&&◌, List, ◌++◌, length, replicate, ◌==◌, nat_le, slice_set}
+use Rattle.std.specs.List.{list_all}
 use Rattle.octets.specs.declared.Fault.TheVariants.{Form, Range, Count}
 use Rattle.octets.specs.Reads.{Read, ◌>>=◌, ◌>>◌, give, unless, byte, number, below, positive, many, times, end}
+use Rattle.messages.specs.declared.values.Packet.{Packet}
 use Rattle.messages.specs.declared.values.Word.{Word}
 use Rattle.messages.specs.declared.values.WordId.{WordId}
-use Rattle.messages.specs.declared.values.Seens.{Seens}
-use Rattle.messages.specs.declared.values.Words.{Words}
+use Rattle.messages.specs.Packets.{Seens}
+use Rattle.messages.specs.Packets.{Words}
+pub use Rattle.messages.specs.Values.{low_count}
 
 -- how many follow: 1 to 4
 abbrev pub how_many : Read ℕ
@@ -30,6 +33,12 @@ blank_id = record { about = 0; count = 0; tag = 0 }
 abbrev pub padded : {A : Type 0} → A → List A → List A
 padded blank xs = xs ++ replicate (4 - length xs) blank
 
+-- so many of a kind, and blanks after them
+abbrev pub four_in : {A : Type 0} → Read A → A → ℕ → Read (List A)
+four_in p blank count = do
+  xs ← many count p
+  give (padded blank xs)
+
 abbrev pub ids_in : ℕ → ℕ → Read (List WordId)
 ids_in n count = do
   ids ← many count (id_in n)
@@ -37,12 +46,20 @@ ids_in n count = do
 
 -- the test holds of each
 abbrev pub each : {A : Type 0} → (A → Bool) → List A → Bool
-each test [] = true
-each test (x ∷ xs) = test x && each test xs
+each test xs = list_all test xs
 
--- the count is below 2 ^ 63
-abbrev pub low_count : WordId → Bool
-low_count i = nat_lt i.count (2 ^ 63)
+-- one to four of a kind with a drawn number, after their kind and to the end; a count that is too large is the fault only of a frame that is whole
+abbrev pub batch_in : {A B : Type 0} → Read A → A → (A → Bool) → (ℕ → ℕ → List A → B) → Read B
+batch_in p blank low make = do
+  drawn ← positive 8
+  count ← how_many
+  items ← four_in p blank count
+  end
+  unless Count (each low items)
+  give (make drawn count items)
+
+abbrev pub packet : {A : Type 0} → ℕ → ℕ → List A → Packet A
+packet drawn count items = record { drawn = drawn; count = count; items = items }
 
 -- what was seen, after its kind and to the end; a count that is too large is the fault only of a frame that is whole
 abbrev pub seens_in : ℕ → Read Seens

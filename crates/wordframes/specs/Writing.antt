@@ -6,8 +6,8 @@ use Rattle.octets.specs.Writes.{octets}
 pub use Rattle.octets.specs.Writes.{Wrote}
 use Rattle.messages.specs.declared.values.Word.{Word}
 use Rattle.messages.specs.declared.values.WordId.{WordId}
-use Rattle.messages.specs.declared.values.Seens.{Seens}
-use Rattle.messages.specs.declared.values.Words.{Words}
+use Rattle.messages.specs.Packets.{Seens}
+use Rattle.messages.specs.Packets.{Words}
 
 abbrev pub bytes_of_id : WordId → List ℕ
 bytes_of_id i = i.about ∷ (octets 8 i.count ++ octets 8 i.tag)
@@ -32,6 +32,10 @@ bytes_of_word w = bytes_of_id w.id ++ (length (roads_to w.costs 64) ∷ bytes_of
 
 abbrev pub bytes_of_word_items : List Word → ℕ → List ℕ
 bytes_of_word_items items count = flat_map bytes_of_word (take count items)
+
+-- the drawn number, how many, and each
+abbrev pub bytes_of_row : {A : Type 0} → (A → List ℕ) → ℕ → ℕ → List A → List ℕ
+bytes_of_row w drawn count items = octets 8 drawn ++ (count ∷ flat_map w items)
 
 abbrev pub bytes_of_words : Words → List ℕ
 bytes_of_words w = 2 ∷ (octets 8 w.drawn ++ (w.count ∷ bytes_of_word_items w.items w.count))

@@ -2,7 +2,7 @@
 ghost use Rattle.std.specs.Prelude.{◌≡◌, ℕ, ◌+◌, ◌≤◌, length, IfOk};
 ghost use Rattle.octets.specs.Reads.{with_left};
 ghost use Rattle.octets.specs.Writes.{put};
-ghost use Rattle.wordframes.specs.Reading.{id_in, how_many};
+ghost use Rattle.wordframes.specs.Reading.{how_many, id_in};
 ghost use Rattle.wordframes.specs.Writing.{bytes_of_id};
 
 use messages::WordId;
@@ -13,13 +13,13 @@ pub fn how_many(reader: &mut Reader) -> Result<u8, Fault>
     ensures reads { how_many reader.old.left.now ≡ with_left result reader.new.left.now }
     ensures fits { IfOk result (λ k. k ≤ 4) }
 {
-    let count = reader.byte()?;
-    if count < 1 || count > 4 {
-        return Err(Fault::Form);
+    match reader.byte()? {
+        count @ 1..=4 => Ok(count),
+        _ => Err(Fault::Form),
     }
-    Ok(count)
 }
 
+// Kept: `n` goes beside the reader as a number. A type for at most 64 boxes would ask more of callers of `read_seens`, which takes any, and half of what is read asks no number.
 pub fn id(reader: &mut Reader, n: u8) -> Result<WordId, Fault>
     ensures { id_in n reader.old.left.now ≡ with_left result reader.new.left.now }
 {

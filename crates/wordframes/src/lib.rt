@@ -3,6 +3,7 @@
 // It knows the values and the numbers of several bytes, and nothing of other frames. It promises what is read for every list of bytes, and what is written.
 #![tactic(auto)]
 
+mod batch;
 mod id_bytes;
 mod roads_bytes;
 mod seens_bytes;

@@ -39,13 +39,7 @@ pub fn roads(reader: &mut Reader, n: u8, about: u8, count: u8) -> Result<[u16; 6
 pub fn road_count(costs: [u16; 64]) -> u8
     ensures { result ≡ length (roads_to costs 64) }
 {
-    let mut count = 0u8;
-    for i in 0..64usize {
-        if costs[i] != 0 {
-            count += 1;
-        }
-    }
-    count
+    costs.iter().filter(|cost| **cost != 0).count() as u8
 }
 
 // Writes the roads from the place `at` on, and gives the place after them.
@@ -55,11 +49,10 @@ pub fn put_roads(out: &mut [u8], at: usize, costs: [u16; 64]) -> usize
     ensures wrote { out.new ≡ put at (bytes_of_roads costs) out.old }
 {
     let mut next = at;
-    for i in 0..64u8 {
-        let cost = costs[usize::from(i)];
-        if cost != 0 {
-            next = put_byte(out, next, i);
-            next = put_number(out, next, 2, u64::from(cost));
+    for (to, cost) in costs.iter().enumerate() {
+        if *cost != 0 {
+            next = put_byte(out, next, to as u8);
+            next = put_number(out, next, 2, u64::from(*cost));
         }
     }
     next

@@ -11,9 +11,9 @@ pub returns : goal.returns
 returns c =
     let s = box_of c.args.router in
     let t = c.args.tag in
-    let is = c.says_owed-said.ensures.is in
+    let is = ap box_of c.unwrap_or-next.ensures ∙ c.says_owed-said.ensures.is in
     record {
-      said = c.says_owed-said.ensures.said;
+      said = c.is_some.ensures ∙ c.says_owed-said.ensures.said;
       is = is;
       telling = λ e h. subst (λ (u : Box). Names (get_or c.tellings.result e no_place) (told_to e u)) is (c.tellings.ensures e h);
       so =

@@ -11,9 +11,9 @@ near-init c =
 
 pub near-preserved : goal.near-preserved
 near-preserved c =
-    walk_on c.args.n c.args.me c.args.costs.now c.nearest-v.result _ _ c.near.dist c.near.edge c.near.next _ _ c.relax.new.edge c.relax.new.next c.near._turn
+    walk_on c.args.n c.args.me c.args.costs.now c.in-Some.v _ _ c.near.dist c.near.edge c.near.next _ _ c.relax.new.edge c.relax.new.next c.near._turn
     (omega arith) (omega arith) (omega arith) c.near.invariant
-    (omega arith) (c.nearest-v.ensures.reached (omega arith)) (c.nearest-v.ensures.least (omega arith))
+    c.in-Some.ensures.0 (c.in-Some.ensures.1, c.in-Some.ensures.2) c.in-Some.ensures.3
     (omega arith) (omega arith) c.settle-best.ensures.edges c.settle-best.ensures.dists c.type_inv.edge c.relax.ensures.after c.relax.ensures.rest
 
 pub returns-after-near : goal.returns-after-near
@@ -21,9 +21,9 @@ returns-after-near c =
     walk_end c.args.n c.args.me c.args.costs.now c.near.dist c.near.edge c.near.next c.near._turn (omega arith) (omega arith) c.near.invariant
     (all_shut_lem c.args.n c.args.me c.args.costs.now c.near.dist c.near.edge c.near.next c.near._turn c.near.invariant (omega arith))
 
-pub returns-then-v-n : goal.returns-then-v-n
-returns-then-v-n c =
+pub returns-in_default : goal.returns-in_default
+returns-in_default c =
     walk_end c.args.n c.args.me c.args.costs.now c.near.dist c.near.edge c.near.next c.near._turn (omega arith) (omega arith) c.near.invariant
     (none_shut c.args.n c.args.costs.now c.near.edge
     (walk_fits c.args.n c.args.me c.args.costs.now c.near.dist c.near.edge c.near.next c.near._turn c.near.invariant (omega arith))
-    (c.nearest-v.ensures.none (omega arith)))
+    c.in_default.ensures)

@@ -4,9 +4,6 @@ use Rattle.checksum.specs.Internet.{Leaves}
 use Rattle.checksum.proofs.Folds.{leaves_on, leaves_fold}
 use Rattle.checksum.proofs.internet.folded.Goals as goal
 
-pub overflow_cast-result : goal.overflow_cast-result
-overflow_cast-result c = record { fits = omega arith }
-
 pub returns : goal.returns
 returns c =
     leaves_on c.args.sum c.fold.result c.fold-2.result

@@ -3,9 +3,6 @@ use Rattle.std.proofs.Common.{arith}
 use Rattle.checksum.specs.Internet.{ones_add}
 use Rattle.checksum.proofs.internet.ones_add.Goals as goal
 
-pub overflow_cast-result : goal.overflow_cast-result
-overflow_cast-result c = record { fits = omega arith }
-
 pub returns : goal.returns
 unfolding ones_add
 returns c = omega arith

@@ -1,11 +1,7 @@
--- The sum so far, with the words that are left, is the plain sum; and a byte adds at most 32768.
-use Rattle.std.proofs.Common.{◌≡◌, ◌+◌, ◌-◌, ◌*◌, ◌≤◌, length, drop}
+-- The sum so far, with the words that are left, is the plain sum; and a word adds less than 65536.
+use Rattle.std.proofs.Common.{◌≡◌, ◌+◌, ◌*◌, ◌≤◌, drop}
 use Rattle.checksum.specs.Internet.{total}
 use Rattle.checksum.proofs.internet.plain_sum.Given as goal
 
-abbrev pub invariant-loop-i : goal.invariant-loop-i
-invariant-loop-i l =
-    (l.i ≤ length l.piece) × (l.sum ≤ 32768 * l.i) × (l.sum + total (drop l.i l.piece) ≡ total l.piece)
-
-abbrev pub decreases-loop-i : goal.decreases-loop-i
-decreases-loop-i l = length l.piece - l.i
+abbrev pub invariant-loop-word : goal.invariant-loop-word
+invariant-loop-word l = (l.sum ≤ 65535 * l.word-index) × (l.sum + total (drop (2 * l.word-index) l.piece) ≡ total l.piece)

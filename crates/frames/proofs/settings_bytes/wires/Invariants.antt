@@ -3,5 +3,5 @@ use Rattle.octets.specs.Reads.{number, many}
 use Rattle.frames.proofs.settings_bytes.wires.Given as goal
 
 -- the first so many are read
-abbrev pub invariant-loop-i : goal.invariant-loop-i
-invariant-loop-i l = (many l.i (number 2) l.initial.reader.left.now ≡ Ok (take l.i l.costs, l.reader.left.now)) × (length l.costs ≡ 8)
+abbrev pub invariant-loop-cost : goal.invariant-loop-cost
+invariant-loop-cost l = (many l.cost-index (number 2) l.initial.reader.left.now ≡ Ok (take l.cost-index l.cost-items, l.reader.left.now)) × (length l.cost-items ≡ 8)

@@ -1,48 +1,40 @@
 -- Each turn notes one line, or is the last.
-use Rattle.std.proofs.Common.{Some, None, Err, ap, ◌∙◌}
-use Rattle.journal.specs.Replay.{Replayed}
+use Rattle.std.proofs.Common.{◌≡◌, drop, Some, None, Err, Option, ap, ◌∙◌}
+use Rattle.octets.specs.declared.Fault.{Fault}
+use Rattle.journal.specs.Replay.{Replayed, replay}
 use Rattle.journal.specs.State.{known_by}
 use Rattle.journal.proofs.Going.{as_left, as_line, going_none, going_more, going_stops, going_faulty}
 use Rattle.journal.proofs.Replays.{enough, grows, grows_by_all_lem, stops}
 use Rattle.journal.proofs.replaying.replay.Goals as goal
+use Rattle.journal.proofs.replaying.replay.Goals.{in-Ok-None, in-Err}
 
-pub loop-noted-init : goal.loop-noted-init
-loop-noted-init c = going_none c.args.until c.args.bytes.now _ c.begun-notes.ensures
+pub lines-init : goal.lines-init
+lines-init c = going_none c.args.until c.args.bytes.now _ c.begun-notes.ensures
 
-pub loop-noted-preserved : goal.loop-noted-preserved
-loop-noted-preserved c =
-    let k = known_by c.loop-noted.notes in
+pub lines-preserved : goal.lines-preserved
+lines-preserved c =
+    let k = known_by c.lines.notes in
     let m = known_by c.note_line.new.self in
     let bytes = c.args.bytes.now in
-    let t = as_line c.args.until bytes c.loop-noted.place k m c.in-Ok.noted (Some c.in-Some.long) c.in-Some.is c.in-Ok.ensures in
-    going_more c.args.until bytes c.loop-noted.place c.in-Some.long k m c.loop-noted.invariant t
+    going_more c.args.until bytes c.lines.place c.in-Ok-Some.long k m c.lines.invariant
+    (as_line c.args.until bytes c.lines.place k m c.in-Ok-Some.field-0 (Some c.in-Ok-Some.long) c.in-Ok-Some.field-0-is c.in-Ok-Some.ensures)
 
-pub returns-in-None : goal.returns-in-None
-returns-in-None c =
-    let k = known_by c.loop-noted.notes in
-    let m = known_by c.note_line.new.self in
+pub returns : goal.returns
+returns c =
+    let until = c.args.until in
     let bytes = c.args.bytes.now in
-    let e = going_stops c.args.until bytes c.loop-noted.place k m c.loop-noted.invariant (as_line c.args.until bytes c.loop-noted.place k m c.in-Ok.noted None c.in-None.is c.in-Ok.ensures) in
+    let place = c.lines.place in
+    let k = known_by c.lines.notes in
+    let m = known_by c.note_line.new.self in
+    let made : Option Fault → Replayed = λ fault. record { known = m; left = drop place bytes; fault = fault } in
+    let e : made c.match-note_line.fault ≡ replay until bytes =
+    elim c.match-note_line.branch [
+      | in-Ok-None w ↦ ap made w.fault-is ∙ going_stops until bytes place k m c.lines.invariant (as_line until bytes place k m w.in-Ok-None.field-0 None w.in-Ok-None.field-0-is w.in-Ok-None.ensures)
+      | in-Err w ↦ ap made w.fault-is ∙ going_faulty until bytes place k m w.in-Err.fault c.lines.invariant (as_left until bytes place k m (Err w.in-Err.fault) w.in-Err.ensures)
+    ] in
     record {
       known = c.remembered.ensures ∙ ap (λ (z : Replayed). z.known) e;
-      within = c.loop-noted.invariant.within;
-      left = ap (λ (z : Replayed). z.left) e;
-      fault = ap (λ (z : Replayed). z.fault) e;
-      enough = enough;
-      grows = grows;
-      by_all = grows_by_all_lem;
-      stops = stops;
-    }
-
-pub returns-in-Err : goal.returns-in-Err
-returns-in-Err c =
-    let k = known_by c.loop-noted.notes in
-    let m = known_by c.note_line.new.self in
-    let bytes = c.args.bytes.now in
-    let e = going_faulty c.args.until bytes c.loop-noted.place k m c.in-Err.fault c.loop-noted.invariant (as_left c.args.until bytes c.loop-noted.place k m (Err c.in-Err.fault) c.in-Err.ensures) in
-    record {
-      known = c.remembered-in-Err.ensures ∙ ap (λ (z : Replayed). z.known) e;
-      within = c.loop-noted.invariant.within;
+      within = c.lines.invariant.within;
       left = ap (λ (z : Replayed). z.left) e;
       fault = ap (λ (z : Replayed). z.fault) e;
       enough = enough;

@@ -1,17 +1,13 @@
-use Rattle.std.proofs.Common.{sym, ◌∙◌}
-use Rattle.net.proofs.Alls.{all_none, all_more, all_fails}
-use Rattle.net.proofs.Calm.{same_ids}
+-- The words are the same where their numbers are.
+use Rattle.std.proofs.Common.{◌∙◌, refl, arith, rules, tests}
+use Rattle.std.proofs.lemmas.Iterator.{YieldsList-from_range}
+use Rattle.std.proofs.lemmas.Iterator.Search.{all_from_yields_List}
+use Rattle.model.specs.Code.{same_word}
+use Rattle.router.specs.State.{box_of}
+use Rattle.net.proofs.Alls.{all_listed}
 use Rattle.net.proofs.rest.alike.Goals as goal
 
-pub loop-i-init : goal.loop-i-init
-loop-i-init c = all_none _
-
-pub returns-then-not-is_same_as : goal.returns-then-not-is_same_as
-returns-then-not-is_same_as c =
-    let s = same_ids c.args.one c.args.other c.loop-i.i c.id_of.result c.id_of-in-loop-i.result c.id_of.ensures c.id_of-in-loop-i.ensures in
-    sym (all_fails c.args.n c.loop-i.i _ c.loop-i-test.true (sym s ∙ sym c.if-not-is_same_as.ensures))
-
-pub loop-i-preserved : goal.loop-i-preserved
-loop-i-preserved c =
-    let s = same_ids c.args.one c.args.other c.loop-i.i c.id_of.result c.id_of-in-loop-i.result c.id_of.ensures c.id_of-in-loop-i.ensures in
-    all_more c.loop-i.i _ c.loop-i.invariant (sym s ∙ sym c.if-not-is_same_as.ensures)
+pub returns : goal.returns
+returns c =
+    all_from_yields_List (λ i. same_word ((box_of c.args.one).word i) ((box_of c.args.other).word i)) _ _ c.all.result c.all.ensures.ran (YieldsList-from_range 0 c.args.n c.args.n refl (omega arith)) (λ i b q k. search (rules, tests))
+    ∙ all_listed c.args.n (λ i. same_word ((box_of c.args.one).word i) ((box_of c.args.other).word i))

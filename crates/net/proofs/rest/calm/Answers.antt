@@ -1,45 +1,57 @@
-use Rattle.std.proofs.Common.{◌≡◌, ℕ, true, length, sym, ◌∙◌, subst, inl, inr, arith}
+use Rattle.std.proofs.Common.{◌≡◌, ℕ, Bool, true, false, not, length, sym, refl, ap, ◌∙◌, inl, inr, arith, rules, tests}
+use Rattle.std.proofs.lemmas.Iterator.{YieldsList-from_range, YieldsList-from_slice, YieldsList-from_zip}
+use Rattle.std.proofs.lemmas.Iterator.Consumers.{YieldsList-at}
+use Rattle.std.proofs.lemmas.Iterator.Search.{all_from_yields_List}
+use Rattle.std.proofs.lemmas.Bool.{both_ways, eqb-true, eq-eqb}
 use Rattle.model.specs.Promise.{all_below}
-use Rattle.net.specs.Nets.{agrees_with, box_in}
-use Rattle.net.proofs.Alls.{all_none, all_more}
-use Rattle.net.proofs.Calm.{box_read, calm_misplaced, placed, calm_owes, agree_read, calm_apart, calm_all}
+use Rattle.router.specs.State.{box_of}
+use Rattle.router.specs.declared.state.Router.{Router}
+use Rattle.net.specs.Nets.{agrees_with, box_in, calm_at}
+use Rattle.net.proofs.Alls.{all_listed, all_zipped, box_at}
+use Rattle.net.proofs.Calm.{box_read, calm_misplaced, placed, calm_owes, calm_when}
 use Rattle.net.proofs.rest.calm.Goals as goal
+use Rattle.net.proofs.rest.calm.Goals.{then-boxes-n, else-boxes-n, then-box_number-a, else-box_number-a}
 
-pub returns-then-boxes-n : goal.returns-then-boxes-n
-returns-then-boxes-n c =
-    let one = box_read c.args.boxes.now c.args.a c.index-boxes-a.result c.requires.0 c.index-boxes-a.is in
-    sym (calm_misplaced c.args.boxes.now c.args.a c.index-boxes-a.result one (inl (λ e. c.if-boxes-n.true (c.boxes.ensures ∙ e))))
+not_false : (b : Bool) → not b ≡ true → b ≡ false
+not_false true h = sym h
+not_false false h = refl
 
-pub returns-then-box_number-a : goal.returns-then-box_number-a
-returns-then-box_number-a c =
-    let one = box_read c.args.boxes.now c.args.a c.index-boxes-a.result c.requires.0 c.index-boxes-a.is in
-    sym (calm_misplaced c.args.boxes.now c.args.a c.index-boxes-a.result one (inr (λ e. c.if-box_number-a.true (c.box_number.ensures ∙ e))))
+not_true : (b : Bool) → not b ≡ false → b ≡ true
+not_true true h = refl
+not_true false h = sym h
 
-pub returns-then-owes : goal.returns-then-owes
-returns-then-owes c =
-    sym (calm_owes c.args.boxes.now c.args.a c.index-boxes-a.result (box_read c.args.boxes.now c.args.a c.index-boxes-a.result c.requires.0 c.index-boxes-a.is) (sym c.if-owes.ensures))
+pub returns-then-not-owes : goal.returns-then-not-owes
+returns-then-not-owes c =
+    let ss = c.args.boxes.now in
+    let a = c.args.a in
+    let n = length ss in
+    let s = c.index-boxes-a.result in
+    let one = box_read ss a s c.requires.0 c.index-boxes-a.is in
+    let agrees : ℕ → Bool = λ e. agrees_with n (box_in ss a) a (box_in ss e) e in
+    let agree : ℕ × Router → Bool = λ p. agrees_with n (box_of s) a (box_of p.1) p.0 in
+    let all : c.all.result ≡ all_below n agrees =
+    all_from_yields_List agree c.all.new.self _ c.all.result c.all.ensures.ran (YieldsList-from_zip (YieldsList-at c.zip.ensures.first (YieldsList-from_range 0 n n refl (omega arith))) (YieldsList-from_slice ss c.zip.ensures.second.0)) (λ p b q k. search (rules, tests))
+    ∙ all_zipped 0 ss agree agrees (λ i x d e l. let at : x ≡ i = omega (arith, e) in λ j. agrees_with n (sym one j) a (sym (ap (box_in ss) at ∙ box_at ss i d l) j) x)
+    ∙ all_listed n agrees in
+    elim c.if-box_number-a.branch [
+      | then-box_number-a w ↦ elim c.if-boxes-n.branch [
+        | then-boxes-n v ↦ all ∙ sym (calm_when ss a s one (placed ss a s one (sym c.boxes.ensures ∙ v.if-boxes-n.true) (sym v.box_number.ensures ∙ eqb-true v.box_number.result a (sym v.value-is ∙ w.if-box_number-a.true))) (sym w.owes.ensures ∙ not_false w.owes.result (sym w.value-is ∙ c.if-not-owes.true)))
+        | else-boxes-n v ↦ absurd (v.if-boxes-n.false (eqb-true c.boxes.result n (sym v.value-is ∙ w.if-box_number-a.true)))
+      ]
+      | else-box_number-a w ↦ absurd (both_ways c.if-boxes-n.value w.if-box_number-a.false (sym w.value-is ∙ c.if-not-owes.true))
+    ]
 
-pub loop-e-init : goal.loop-e-init
-loop-e-init c = all_none _
-
-pub returns-then-not-agree : goal.returns-then-not-agree
-returns-then-not-agree c =
-    let one = box_read c.args.boxes.now c.args.a c.index-boxes-a.result c.requires.0 c.index-boxes-a.is in
-    let other = box_read c.args.boxes.now c.loop-e.e c.index-boxes-e.result c.loop-e-test.true c.index-boxes-e.is in
-    sym (calm_apart c.args.boxes.now c.args.a c.loop-e.e c.loop-e-test.true
-    (agree_read c.args.boxes.now c.args.a c.loop-e.e c.index-boxes-a.result c.index-boxes-e.result one other ∙ sym c.if-not-agree.ensures))
-
-pub loop-e-preserved : goal.loop-e-preserved
-loop-e-preserved c =
-    let one = box_read c.args.boxes.now c.args.a c.index-boxes-a.result c.requires.0 c.index-boxes-a.is in
-    let other = box_read c.args.boxes.now c.loop-e.e c.index-boxes-e.result c.loop-e-test.true c.index-boxes-e.is in
-    all_more c.loop-e.e _ c.loop-e.invariant
-    (agree_read c.args.boxes.now c.args.a c.loop-e.e c.index-boxes-a.result c.index-boxes-e.result one other ∙ sym c.if-not-agree.ensures)
-
-pub returns : goal.returns
-returns c =
-    let one = box_read c.args.boxes.now c.args.a c.index-boxes-a.result c.requires.0 c.index-boxes-a.is in
-    let end : c.loop-e.e ≡ length c.args.boxes.now = omega arith in
-    let P : ℕ → Type 0 = λ n. all_below n (λ e. agrees_with (length c.args.boxes.now) (box_in c.args.boxes.now c.args.a) c.args.a (box_in c.args.boxes.now e) e) ≡ true in
-    let place = placed c.args.boxes.now c.args.a c.index-boxes-a.result one (sym c.boxes.ensures ∙ c.if-boxes-n.false) (sym c.box_number.ensures ∙ c.if-box_number-a.false) in
-    sym (calm_all c.args.boxes.now c.args.a c.index-boxes-a.result one place (sym c.if-owes.ensures) (subst P end c.loop-e.invariant))
+pub returns-else-not-owes : goal.returns-else-not-owes
+returns-else-not-owes c =
+    let ss = c.args.boxes.now in
+    let s = c.index-boxes-a.result in
+    let one = box_read ss c.args.a s c.requires.0 c.index-boxes-a.is in
+    let no : calm_at ss c.args.a ≡ false =
+    elim c.if-box_number-a.branch [
+      | then-box_number-a w ↦ calm_owes ss c.args.a s one (sym w.owes.ensures ∙ not_true w.owes.result (sym w.value-is ∙ c.if-not-owes.false))
+      | else-box_number-a w ↦ elim c.if-boxes-n.branch [
+        | then-boxes-n v ↦ calm_misplaced ss c.args.a s one (inr (λ e. both_ways c.if-boxes-n.value w.if-box_number-a.false (v.value-is ∙ eq-eqb v.box_number.result c.args.a (v.box_number.ensures ∙ e))))
+        | else-boxes-n v ↦ calm_misplaced ss c.args.a s one (inl (λ e. v.if-boxes-n.false (c.boxes.ensures ∙ e)))
+      ]
+    ] in
+    c.if-not-owes.false ∙ sym no

@@ -5,5 +5,5 @@ use Rattle.net.proofs.route.follow.Given as goal
 
 abbrev pub invariant-loop-turn : goal.invariant-loop-turn
 invariant-loop-turn l =
-    (l.at < length l.boxes) × (l.steps ≡ l.turn) × (l.cost ≤ 65535 * l.turn) ×
-    (Numbered l.boxes → l.to < length l.boxes → follows (length l.boxes - l.turn) (box_in l.boxes) l.to l.cost l.at ≡ follows (length l.boxes) (box_in l.boxes) l.to 0 l.from)
+    (l.at < length l.boxes) × (l.route.steps ≡ l.turn) × (l.route.cost ≤ 65535 * l.turn) ×
+    (Numbered l.boxes → l.to < length l.boxes → follows (length l.boxes - l.turn) (box_in l.boxes) l.to l.route.cost l.at ≡ follows (length l.boxes) (box_in l.boxes) l.to 0 l.from)

@@ -19,8 +19,8 @@ give_packet-requires c =
     let same = get_or_default c.args.words.now c.in-Some.wire _ no_words (omega arith) in
     (c.requires.0, subst (λ p. Full p) (sym same) (c.requires.1 c.in-Some.wire l))
 
-pub returns : goal.returns
-returns c =
+pub returns-in-Some : goal.returns-in-Some
+returns-in-Some c =
     let o = open_over_lem c.args.to (links_of c.args.station.now.links) c.in-Some.wire c.in-Some.ensures in
     let long : length c.args.words.now ≡ 8 = search rules in
     record {

@@ -6,14 +6,10 @@ use Rattle.octets.proofs.Reader.number.Goals as goal
 pub loop-init : goal.loop-init
 loop-init c = (number_none c.args.self.now.left.now, omega arith)
 
-pub returns-in_err-low : goal.returns-in_err-low
-returns-in_err-low c =
+pub returns-in_err-low-clause-reads : goal.returns-in_err-low-clause-reads
+returns-in_err-low-clause-reads c =
     let p = err_from_is_err_and c.from_residual.result c.from_residual.ensures.1 in
-    rw (p.1, p.2)
-    (record {
-      reads = number_stops c.args.self.now.left.now _ c.args.width c.loop.counter _ _ c.loop.invariant.0 c.in_err-low.ensures (omega arith);
-      fits = tt;
-    })
+    rw (p.1, p.2) (number_stops c.args.self.now.left.now _ c.args.width c.loop.counter _ _ c.loop.invariant.0 c.in_err-low.ensures.reads (omega arith))
 
 pub overflow_mul-x : goal.overflow_mul-x
 overflow_mul-x c =
@@ -27,6 +23,6 @@ overflow_add-x c =
 
 pub loop-preserved : goal.loop-preserved
 loop-preserved c = (
-  rw c.from.ensures (number_more c.args.self.now.left.now c.loop.counter _ _ _ _ c.loop.invariant.0 c.in_ok-low.ensures),
+  rw c.from.ensures (number_more c.args.self.now.left.now c.loop.counter _ _ _ _ c.loop.invariant.0 c.in_ok-low.ensures.reads),
   pow_more _ _ _ c.loop.invariant.1 (omega arith),
 )

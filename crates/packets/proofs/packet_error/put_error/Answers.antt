@@ -9,10 +9,10 @@ returns c =
     let q : List ℕ = c.args.quoted.now in
     let all : List ℕ = error_header c.args.me q ++ (error_start c.args.trouble ++ q) in
     let w1 = then_bytes c.error_header.result (written_none 0 c.args.out.now) (omega arith) c.put_bytes-at.ensures.wrote c.put_bytes-at.ensures.next in
-    let w2 = then_bytes (c.trouble_type.result ∷ 0 ∷ 0 ∷ 0 ∷ 0 ∷ 0 ∷ 0 ∷ 0 ∷ []) w1 (omega arith) c.put_bytes-at-2.ensures.wrote c.put_bytes-at-2.ensures.next in
+    let w2 = then_bytes (c.from.result ∷ 0 ∷ 0 ∷ 0 ∷ 0 ∷ 0 ∷ 0 ∷ 0 ∷ []) w1 (omega arith) c.put_bytes-at-2.ensures.wrote c.put_bytes-at-2.ensures.next in
     let w3 = then_bytes q w2 (omega arith) c.put_bytes.ensures.wrote c.put_bytes.ensures.next in
-    let e : (c.error_header.result ++ (c.trouble_type.result ∷ 0 ∷ 0 ∷ 0 ∷ 0 ∷ 0 ∷ 0 ∷ 0 ∷ [])) ++ q ≡ all
-    = ap₂ (λ (h : List ℕ) (t : ℕ). (h ++ (t ∷ 0 ∷ 0 ∷ 0 ∷ 0 ∷ 0 ∷ 0 ∷ 0 ∷ [])) ++ q) c.error_header.ensures c.trouble_type.ensures in
+    let e : (c.error_header.result ++ (c.from.result ∷ 0 ∷ 0 ∷ 0 ∷ 0 ∷ 0 ∷ 0 ∷ 0 ∷ [])) ++ q ≡ all
+    = ap₂ (λ (h : List ℕ) (t : ℕ). (h ++ (t ∷ 0 ∷ 0 ∷ 0 ∷ 0 ∷ 0 ∷ 0 ∷ 0 ∷ [])) ++ q) c.error_header.ensures c.from.ensures in
     let w = written_as e w3 in
     (omega (arith, length_both all), put_both all c.args.out.now c.put_bytes.new.out c.put_sums.new.packet _ (omega arith) w.is c.put_sums.ensures)
 

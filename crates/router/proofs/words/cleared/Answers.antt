@@ -1,16 +1,21 @@
--- Each turn clears one row.
-use Rattle.std.proofs.Common.{◌≡◌, ℕ, length, ◌∙◌, subst, arith, length-set, rules}
-use Rattle.router.proofs.Clearing.{ClearedTo, cleared_more, cleared_all}
+-- Each row loses its bit i; past the end no bit is set before or after.
+use Rattle.std.proofs.Common.{◌≡◌, ℕ, Bool, true, false, not, ◌&&◌, eqb, ltb, length, refl, sym, ap, ◌∙◌, rules, ltb-false, ltb-true}
+use mathlib.Core.Bool.{and-false, and_comm}
+use Rattle.bits.specs.Bits.{bit}
+use Rattle.messages.specs.Values.{at}
+use Rattle.messages.proofs.Arrays.{mapped_at}
+use Rattle.router.proofs.Tables.{bit_at_past}
 use Rattle.router.proofs.words.cleared.Goals as goal
 
-pub loop-e-preserved : goal.loop-e-preserved
-loop-e-preserved c = (
-  length-set c.loop-e.left c.loop-e.e c.without_bit.result ∙ c.loop-e.invariant.0,
-  cleared_more c.loop-e.left c.args.shown c.loop-e.e c.args.i c.without_bit.result c.loop-e.invariant.0 c.loop-e-test.true c.loop-e.invariant.1 c.without_bit.ensures,
-)
-
 pub returns : goal.returns
-returns c =
-    let l : length c.args.shown ≡ 64 = search rules in
-    let at-end : c.loop-e.e ≡ 64 = omega arith in
-    cleared_all c.loop-e.left c.args.shown c.args.i l (subst (λ (e : ℕ). ClearedTo e c.args.i c.loop-e.left c.args.shown) at-end c.loop-e.invariant.1)
+returns c e j = go (ltb e 64) refl
+  where
+    go : (b : Bool) → ltb e 64 ≡ b → bit (at c.map.result e) j ≡ (not (eqb j c.args.i) && bit (at c.args.shown e) j)
+    go true q =
+        mapped_at _ (λ (x y : ℕ). (k : ℕ) → bit y k ≡ (bit x k && not (eqb k c.args.i))) _ (λ x y q k. search rules) _ _ _ e 0 0 c.map.ensures.items (ltb-true e 64 q) j
+        ∙ and_comm (bit (at c.args.shown e) j) (not (eqb j c.args.i))
+    go false q =
+        let long : length c.args.shown ≡ 64 = search rules in
+        let made : length c.map.result ≡ 64 = search rules in
+        let past = ltb-false e 64 q in
+        bit_at_past c.map.result e j 64 made past ∙ sym (ap (λ b. not (eqb j c.args.i) && b) (bit_at_past c.args.shown e j 64 long past) ∙ and-false (not (eqb j c.args.i)))

@@ -1,53 +1,69 @@
 -- Each turn hears one word.
-use Rattle.std.proofs.Common.{◌≡◌, ℕ, ◌<◌, false, [], ◌∷◌, length, get_or, None, sym, refl, ap, ◌∙◌, subst, rules}
-use Rattle.messages.specs.declared.values.WordId.{WordId}
-use Rattle.router.specs.State.{box_of, id_refusal}
-use Rattle.station.specs.Hearing.{ids_of}
-use Rattle.station.specs.Packets.{is_out, is_spent, no_id}
+use Rattle.std.proofs.Common.{◌≡◌, ℕ, ◌<◌, false, List, [], ◌∷◌, map, length, get_or, None, Option, sym, refl, ap, ◌∙◌, subst, arith, rules}
+use Rattle.messages.specs.declared.values.Word.{Word}
+use Rattle.router.specs.State.{box_of}
+use Rattle.router.specs.declared.answers.Outcome.{Outcome}
+use Rattle.linkmodel.specs.Station.{takes_all}
+use Rattle.station.specs.Packets.{is_out, is_spent}
+use Rattle.station.specs.Ticking.{item_of}
 use Rattle.station.proofs.Admitted.{id_fits_lem}
 use Rattle.station.proofs.Carrying.{four_blank}
-use Rattle.station.proofs.Scans.{none_here}
-use Rattle.station.proofs.TakingWords.{heard_end, heard_more, heard_none, ids_at, ids_length, outcomes_end}
+use Rattle.station.proofs.Scans.{few_told, none_here}
+use Rattle.station.proofs.TakingWords.{GoodWords, any_word, good_told, heard_end, heard_more, heard_none, outcomes, outcomes_end, outcomes_told, takes_told}
 use Rattle.station.proofs.taking.hear_all.Goals as goal
 
 pub loop-k-init : goal.loop-k-init
 loop-k-init c =
     let a = c.args in
-    heard_none a.fits a.from a.words.count a.words.items a.tags (box_of a.router) (None ∷ None ∷ None ∷ None ∷ []) refl (four_blank None None refl) c.requires.1.1.1
+    let p = a.words in
+    let l : length p.items ≡ 4 = search rules in
+    let ws = c.held-told.result.now in (
+      heard_none a.fits a.from ws a.tags (box_of a.router) (None ∷ None ∷ None ∷ None ∷ []) refl (four_blank None None refl) (subst (GoodWords a.router.n) (sym c.held-told.ensures) (good_told a.router.n p.count p.items c.requires.1.1)),
+      few_told p.count 4 p.items ws l c.held-told.ensures,
+    )
 
 pub hear_one-outcome-requires : goal.hear_one-outcome-requires
 hear_one-outcome-requires c =
     let a = c.args in
     let k = c.loop-k.k in
-    let xs = a.words.items in
-    let n = a.words.count in
-    let l : length xs ≡ 4 = search rules in
-    let m = c.requires.0 in
+    let ws = c.held-told.result.now in
     let h = c.loop-k-test.true in
-    let inv = c.loop-k.invariant in
+    let inv = c.loop-k.invariant.0 in
     let b = box_of c.loop-k.next in
-    let ids = ids_length xs ∙ l in
-    let one : a.from < b.n = subst (λ (i : ℕ). a.from < i) (sym inv.same.boxes) c.requires.1.0 in
-    let road : 0 < b.cost a.from = subst (λ (i : ℕ). 0 < i) (sym (inv.same.roads a.from)) c.requires.1.1.0 in
-    ap (λ (x : WordId). id_refusal a.from x b) (sym (ids_at xs k))
-    ∙ id_fits_lem a.from (get_or (ids_of xs) k no_id) b one road
-    (subst (λ (i : ℕ). is_out i (get_or (ids_of xs) k no_id) ≡ false) (sym inv.same.boxes) (none_here (is_out a.router.n) n k (ids_of xs) ids m h inv.good.0))
-    (none_here is_spent n k (ids_of xs) ids m h inv.good.1)
+    let x = (get_or ws k any_word).id in
+    let one : a.from < b.n = subst (λ (i : ℕ). a.from < i) (sym inv.same.boxes) c.requires.0 in
+    let road : 0 < b.cost a.from = subst (λ (i : ℕ). 0 < i) (sym (inv.same.roads a.from)) c.requires.1.0 in
+    id_fits_lem a.from x b one road
+    (subst (λ (i : ℕ). is_out i x ≡ false) (sym inv.same.boxes) (none_here (λ y. is_out a.router.n y.id) any_word ws k h inv.good.0))
+    (none_here (λ y. is_spent y.id) any_word ws k h inv.good.1)
 
 pub loop-k-preserved : goal.loop-k-preserved
 loop-k-preserved c =
     let a = c.args in
-    let l : length a.words.items ≡ 4 = search rules in
     let m : length a.tags ≡ 4 = search rules in
-    let one = c.hear_one-outcome in
-    heard_more a.fits a.from a.words.count a.words.items a.tags (box_of a.router) c.loop-k.k (box_of c.loop-k.next) (box_of one.result.0) c.loop-k.outcomes one.result.1
-    l m c.requires.0 c.loop-k-test.true c.loop-k.invariant one.ensures.is one.ensures.outcome
+    let k = c.loop-k.k in
+    let inv = c.loop-k.invariant in
+    let few : k < 4 = omega (arith, inv.1, c.loop-k-test.true) in
+    let tagged : k < length a.tags = omega arith in
+    let one = c.hear_one-outcome in (
+      heard_more a.fits a.from c.held-told.result.now a.tags (box_of a.router) k (box_of c.loop-k.next) (box_of one.result.0) c.loop-k.outcomes one.result.1 few c.loop-k-test.true tagged inv.0 one.ensures.is one.ensures.outcome,
+      inv.1,
+    )
 
 pub returns : goal.returns
 returns c =
     let a = c.args in
+    let p = a.words in
+    let r = box_of a.router in
     let b = box_of c.loop-k.next in
+    let ws = c.held-told.result.now in
+    let k = c.loop-k.k in
+    let os = c.loop-k.outcomes in
+    let inv = c.loop-k.invariant.0 in
     record {
-      is = heard_end a.fits a.from a.words.count a.words.items a.tags (box_of a.router) c.loop-k.k b c.loop-k.outcomes c.loop-k-test.false c.loop-k.invariant;
-      outcomes = outcomes_end a.fits a.from a.words.count a.words.items a.tags (box_of a.router) c.loop-k.k b c.loop-k.outcomes c.loop-k-test.false c.loop-k.invariant;
+      is = heard_end a.fits a.from ws a.tags r k b os c.loop-k-test.false inv
+          ∙ ap (λ (ys : List Word). takes_all a.fits a.from (map item_of ys) a.tags r) c.held-told.ensures ∙ sym (takes_told a.fits a.from p.count p.items a.tags r);
+      outcomes = λ j. outcomes_end a.fits a.from ws a.tags r k b os c.loop-k-test.false inv j
+          ∙ ap (λ (ys : List Word). get_or (outcomes a.fits a.from ys a.tags r) j None) c.held-told.ensures
+          ∙ ap (λ (us : List (Option Outcome)). get_or us j None) (sym (outcomes_told a.fits a.from p.count p.items a.tags r));
     }

@@ -9,9 +9,9 @@ use Rattle.wordframes.proofs.Roads.{length_road, roads_skip, roads_take, roads_m
 use Rattle.wordframes.proofs.roads_bytes.put_roads.Goals as goal
 use Rattle.wordframes.proofs.roads_bytes.put_roads.Goals.{then-cost-ne0, else-cost-ne0}
 
-pub loop-i-init : goal.loop-i-init
+pub loop-to-init : goal.loop-to-init
 unfolding roads_to
-loop-i-init c = written_none c.args.at c.args.out.now
+loop-to-init c = written_none c.args.at c.args.out.now
 
 -- a road more still fits
 room : (costs : List ℕ) (i at next n : ℕ) → (get_or costs i 0 ≡ 0 → ⊥) → i < 64 → next ≡ at + length (flat_map bytes_of_road (roads_to costs i)) → at + 3 * length (roads_to costs 64) ≤ n → next + 3 ≤ n
@@ -23,15 +23,13 @@ room costs i at next n h l e fits =
 
 pub put_byte-next-requires : goal.put_byte-next-requires
 put_byte-next-requires c =
-    let f : c.from.result ≡ c.loop-i.i = c.from.ensures in
-    let z = rw f at c.if-cost-ne0.true in
-    omega (arith, room c.args.costs c.loop-i.i c.args.at c.loop-i.next (length c.args.out.now) z c.loop-i-test.true c.loop-i.invariant.place c.requires)
+    let z = c.if-cost-ne0.true in
+    omega (arith, room c.args.costs c.loop-to.to c.args.at c.loop-to.next (length c.args.out.now) z c.loop-to-test.true c.loop-to.invariant.place c.requires)
 
 pub put_number-next-requires : goal.put_number-next-requires
 put_number-next-requires c =
-    let f : c.from.result ≡ c.loop-i.i = c.from.ensures in
-    let z = rw f at c.if-cost-ne0.true in
-    omega (arith, c.put_byte-next.ensures.next, room c.args.costs c.loop-i.i c.args.at c.loop-i.next (length c.args.out.now) z c.loop-i-test.true c.loop-i.invariant.place c.requires)
+    let z = c.if-cost-ne0.true in
+    omega (arith, c.put_byte-next.ensures.next, room c.args.costs c.loop-to.to c.args.at c.loop-to.next (length c.args.out.now) z c.loop-to-test.true c.loop-to.invariant.place c.requires)
 
 -- the bytes of the roads with one more
 more_bytes : (costs : List ℕ) (i : ℕ) → (get_or costs i 0 ≡ 0 → ⊥) → (flat_map bytes_of_road (roads_to costs i) ++ (i ∷ [])) ++ octets 2 (get_or costs i 0) ≡ flat_map bytes_of_road (roads_to costs (i + 1))
@@ -40,25 +38,24 @@ more_bytes costs i h =
     ∙ (flat_map_more bytes_of_road [] (roads_to costs i) (i, get_or costs i 0)
     ∙ ap (λ roads. flat_map bytes_of_road roads) (sym (roads_take costs i h)))
 
-pub loop-i-preserved : goal.loop-i-preserved
-loop-i-preserved c =
-    let f : c.from.result ≡ c.loop-i.i = c.from.ensures in
+pub loop-to-preserved : goal.loop-to-preserved
+loop-to-preserved c =
     elim c.if-cost-ne0.branch [
       | then-cost-ne0 w ↦
-          let z = rw f at w.if-cost-ne0.true in
-          let r = room c.args.costs c.loop-i.i c.args.at c.loop-i.next (length c.args.out.now) z c.loop-i-test.true c.loop-i.invariant.place c.requires in
-          let w1 = then_byte c.loop-i.i c.loop-i.invariant (omega arith) w.put_byte-next.ensures.wrote w.put_byte-next.ensures.next in
-          let w2 = then_number 2 w.from-then-cost-ne0.result w1 (omega (arith, w.put_byte-next.ensures.next)) w.put_number-next.ensures.wrote w.put_number-next.ensures.next in
-          let v : w.from-then-cost-ne0.result ≡ get_or c.args.costs c.loop-i.i 0 = w.from-then-cost-ne0.ensures ∙ ap (λ i. get_or c.args.costs i 0) f in
+          let z = w.if-cost-ne0.true in
+          let r = room c.args.costs c.loop-to.to c.args.at c.loop-to.next (length c.args.out.now) z c.loop-to-test.true c.loop-to.invariant.place c.requires in
+          let w1 = then_byte c.loop-to.to c.loop-to.invariant (omega arith) w.put_byte-next.ensures.wrote w.put_byte-next.ensures.next in
+          let w2 = then_number 2 w.from.result w1 (omega (arith, w.put_byte-next.ensures.next)) w.put_number-next.ensures.wrote w.put_number-next.ensures.next in
+          let v : w.from.result ≡ get_or c.args.costs c.loop-to.to 0 = w.from.ensures in
           rw (w.out-is, w.next-is)
-          (written_as (ap (λ x. (flat_map bytes_of_road (roads_to c.args.costs c.loop-i.i) ++ (c.loop-i.i ∷ [])) ++ octets 2 x) v ∙ more_bytes c.args.costs c.loop-i.i z) w2)
+          (written_as (ap (λ x. (flat_map bytes_of_road (roads_to c.args.costs c.loop-to.to) ++ (c.loop-to.to ∷ [])) ++ octets 2 x) v ∙ more_bytes c.args.costs c.loop-to.to z) w2)
       | else-cost-ne0 w ↦
-          let z = rw f at w.if-cost-ne0.false in
-          rw (w.out-is, w.next-is, roads_skip c.args.costs c.loop-i.i z) c.loop-i.invariant
+          let z = w.if-cost-ne0.false in
+          rw (w.out-is, w.next-is, roads_skip c.args.costs c.loop-to.to z) c.loop-to.invariant
     ]
 
 pub returns : goal.returns
 returns c =
-    let e : c.loop-i.i ≡ 64 = omega arith in
-    let w = subst (λ i. Written c.args.at (flat_map bytes_of_road (roads_to c.args.costs i)) c.args.out.now c.loop-i.out c.loop-i.next) e c.loop-i.invariant in
+    let e : c.loop-to.to ≡ 64 = omega arith in
+    let w = subst (λ i. Written c.args.at (flat_map bytes_of_road (roads_to c.args.costs i)) c.args.out.now c.loop-to.out c.loop-to.next) e c.loop-to.invariant in
     record { next = omega (arith, w.place, length_joined bytes_of_road 3 length_road (roads_to c.args.costs 64)); wrote = w.is }

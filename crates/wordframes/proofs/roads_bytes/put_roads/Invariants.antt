@@ -4,5 +4,5 @@ use Rattle.wordframes.specs.Writing.{roads_to, bytes_of_road}
 use Rattle.wordframes.proofs.roads_bytes.put_roads.Given as goal
 
 -- the roads to the boxes so far are written
-abbrev pub invariant-loop-i : goal.invariant-loop-i
-invariant-loop-i l = Written l.at (flat_map bytes_of_road (roads_to l.costs l.i)) l.initial.out l.out l.next
+abbrev pub invariant-loop-to : goal.invariant-loop-to
+invariant-loop-to l = Written l.at (flat_map bytes_of_road (roads_to l.cost-items l.to)) l.initial.out l.out l.next

@@ -12,8 +12,6 @@ returns-in-Ok c =
     let t = c.in-Ok.ensures in
     let s = whole_of c.args.self.now in
     record {
-      is = search rules;
-      gives = search rules;
-      errors = search rules;
+      turned = record { is = search rules; gives = search rules; errors = search rules };
       so = subst (λ o. Did s (if_refused o (λ r. []) (Falls s.box.me ∷ relinks s.links (fell c.args.drawn s.links) s.box.n)) (station_of c.in-Ok.station)) (sym t.refused) t.so;
     }

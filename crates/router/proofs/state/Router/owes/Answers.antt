@@ -1,15 +1,14 @@
 -- One road of which it isn't so is enough.
-use Rattle.std.proofs.Common.{not, sym, ap}
+use Rattle.std.proofs.Common.{not, refl, ◌∙◌, arith, rules, tests}
+use Rattle.std.proofs.lemmas.Iterator.{YieldsList-from_range}
+use Rattle.std.proofs.lemmas.Iterator.Search.{any_from_yields_List}
 use Rattle.router.specs.State.{box_of, own_so_at}
-use Rattle.router.proofs.Laws.{all_none, all_more, all_not}
+use Rattle.router.proofs.OfLists.{some_fails}
 use Rattle.router.proofs.state.Router.owes.Goals as goal
 
-pub loop-x-init : goal.loop-x-init
-loop-x-init c = all_none (own_so_at (box_of c.args.self))
-
-pub loop-x-preserved : goal.loop-x-preserved
-loop-x-preserved c = all_more c.loop-x.x (own_so_at (box_of c.args.self)) c.loop-x.invariant (sym c.if-not-said_so.ensures)
-
-pub returns-then-not-said_so : goal.returns-then-not-said_so
-returns-then-not-said_so c =
-    sym (ap not (all_not c.args.self.n c.loop-x.x (own_so_at (box_of c.args.self)) c.loop-x-test.true (sym c.if-not-said_so.ensures)))
+pub returns : goal.returns
+returns c =
+    let s = box_of c.args.self in
+    let n = c.args.self.n in
+    any_from_yields_List (λ x. not (own_so_at s x)) _ _ c.any.result c.any.ensures.ran (YieldsList-from_range 0 n n refl (omega arith)) (λ x b q k. search (rules, tests))
+    ∙ some_fails n (own_so_at s)

@@ -14,7 +14,7 @@ pub returns : goal.returns
 returns c =
     let l : length c.args.self.links ≡ 64 = search rules in
     let m : length c.args.self.shown ≡ 64 = search rules in
-    let none = sym c.road_refusal.ensures ∙ c.in_default.is in
+    let none = c.in_ok-allows_road.ensures in
     let inside : c.args.to < 64 = search rules in
     let roads = c.args.self.links in
     let s = box_of c.args.self in

@@ -1,7 +1,9 @@
--- All are 0 at first.
-use Rattle.std.proofs.Common.{refl, arith}
-use Rattle.router.proofs.Tables.{at_zeros}
+-- Each is made for its own box.
+use Rattle.std.proofs.Common.{◌≡◌, ℕ, ◌<◌, rules}
+use Rattle.messages.specs.Values.{at}
+use Rattle.messages.proofs.Arrays.{made_at}
+use Rattle.router.specs.State.{box_of, road_to}
 use Rattle.router.proofs.state.Router.roads_from.Goals as goal
 
-pub loop-e-init : goal.loop-e-init
-loop-e-init c = (refl, (λ d h. absurd (omega arith)), (λ d h. at_zeros 64 d))
+pub returns : goal.returns
+returns c e h = made_at _ (λ (d y : ℕ). d < 64 → y ≡ road_to (at c.args.links) (box_of c.args.self) d) _ (λ d y q k. search rules) _ _ e 0 c.from_fn.ensures.items h h

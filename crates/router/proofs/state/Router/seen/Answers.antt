@@ -4,8 +4,8 @@ use Rattle.router.specs.State.{box_of}
 use Rattle.router.proofs.Stood.{stands_as_lem, seen_so}
 use Rattle.router.proofs.state.Router.seen.Goals as goal
 
-pub returns-in-None : goal.returns-in-None
-returns-in-None c =
+pub returns : goal.returns
+returns c =
     let x = c.args.id in
     record {
       refused = search rules;

@@ -7,8 +7,8 @@ use Rattle.router.specs.State.{box_of}
 use Rattle.router.proofs.Stood.{stands_as_lem}
 use Rattle.router.proofs.state.Router.takes.Goals as goal
 
-pub returns-in-None : goal.returns-in-None
-returns-in-None c =
+pub returns : goal.returns
+returns c =
     let s = box_of c.args.self in
     let t = c.args.tag in
     let done = c.taken.ensures in

@@ -15,12 +15,12 @@ pub settled-requires : goal.settled-requires
 settled-requires c =
     let s = station_of c.args.self in
     let d = c.args.drawn in
-    subst Joined (sym (same_station {t = falls d s} c.in-Ok.ensures.is (c.falls-in-Ok.ensures.is ∙ sym (fell_box d s)))) (joined_fell d s (joined_had s c.args.self.joined))
+    subst Joined (sym (same_station {t = falls d s} c.in_ok-links.ensures.is (c.falls-2.ensures.is ∙ sym (fell_box d s)))) (joined_fell d s (joined_had s c.args.self.joined))
 
-pub returns-in-Ok : goal.returns-in-Ok
-returns-in-Ok c =
+pub returns : goal.returns
+returns c =
     let s = station_of c.args.self in
     let d = c.args.drawn in
     let j = joined_had s c.args.self.joined in
-    let is = c.settled.ensures ∙ same_station {t = falls d s} c.in-Ok.ensures.is (c.falls-in-Ok.ensures.is ∙ sym (fell_box d s)) in
+    let is = c.settled.ensures ∙ same_station {t = falls d s} c.in_ok-links.ensures.is (c.falls-2.ensures.is ∙ sym (fell_box d s)) in
     record { refused = search rules; is = is; so = did_as s (falls d s) (station_of c.settled.result) (Falls s.box.me ∷ relinks s.links (fell d s.links) s.box.n) j is (λ es. falls_so_lem s es d) }

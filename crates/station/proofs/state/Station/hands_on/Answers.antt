@@ -7,7 +7,7 @@ use Rattle.station.proofs.state.Station.hands_on.Goals as goal
 
 pub returns : goal.returns
 returns c =
-    let s = c.args.self in
+    let s = c.args.self.now in
     let b = box_of s.router in
     record {
       inside = λ h. c.hop_at.ensures ∙ next_had (map_in b) b.me s.far s.next s.ways c.args.to h;

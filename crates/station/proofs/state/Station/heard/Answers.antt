@@ -3,12 +3,11 @@ use Rattle.std.proofs.Common.{◌≡◌, ℕ, false, eqb, List, ◌++◌, get_or
 use Rattle.model.specs.Box.{Box}
 use Rattle.linkmodel.specs.Calls.{Joined}
 use Rattle.linkmodel.specs.Station.{Out, Station, heard_words, news_for, seens_for, takes_all, with_box}
-use Rattle.station.specs.Hearing.{answer_on, ids_of, outcomes_in}
+use Rattle.messages.specs.Values.{ids_of}
+use Rattle.station.specs.Hearing.{answer_on, outcomes_in}
 use Rattle.station.specs.Packets.{any_in, is_out}
 use Rattle.station.specs.State.{station_of}
 use Rattle.station.specs.Ticking.{bundle_of}
-use Rattle.station.proofs.AnsweringWords.{showing_as}
-use Rattle.station.proofs.Carrying.{carries_as}
 use Rattle.station.proofs.GoingOut.{packet_out, shown_out}
 use Rattle.station.proofs.Had.{joined_had}
 use Rattle.station.proofs.Joining.{same_station}
@@ -24,16 +23,6 @@ settled-station-requires c =
     subst (λ (b : Box). Joined (with_box b s)) (sym c.hear_all.ensures.is)
     (joined_roads s (takes_all fits c.args.from (bundle_of p).items ts s.box) (joined_had s c.args.self.joined) (all_roads fits c.args.from (bundle_of p).items ts s.box))
 
-pub seens_for-requires : goal.seens_for-requires
-seens_for-requires c =
-    let s = station_of c.args.self in
-    let p = c.args.words in
-    let fits = eqb p.drawn c.last.result in
-    let same : (station_of c.settled-station.result).box.n ≡ s.box.n =
-    ap (λ (u : Station). u.box.n) c.settled-station.ensures ∙ ap (λ (b : Box). b.n) c.hear_all.ensures.is
-    ∙ (all_roads fits c.args.from (bundle_of p).items (take p.count c.args.tags) s.box).boxes in
-    (c.requires.0, subst (λ (i : ℕ). any_in (is_out i) p.count (ids_of p.items) ≡ false) (sym same) c.requires.1.1.1.0)
-
 pub news_for-requires : goal.news_for-requires
 news_for-requires c =
     let s = station_of c.args.self in
@@ -42,7 +31,7 @@ news_for-requires c =
     let same : (station_of c.settled-station.result).box.n ≡ s.box.n =
     ap (λ (u : Station). u.box.n) c.settled-station.ensures ∙ ap (λ (b : Box). b.n) c.hear_all.ensures.is
     ∙ (all_roads fits c.args.from (bundle_of p).items (take p.count c.args.tags) s.box).boxes in
-    (c.requires.0, subst (λ (i : ℕ). any_in (is_out i) p.count (ids_of p.items) ≡ false) (sym same) c.requires.1.1.1.0)
+    subst (λ (i : ℕ). any_in (is_out i) p.count (ids_of p.items) ≡ false) (sym same) c.requires.1.1.0
 
 pub returns : goal.returns
 returns c =
@@ -52,8 +41,8 @@ returns c =
     let p = c.args.words in
     let xs = (bundle_of p).items in
     let ts = take p.count c.args.tags in
-    let seens = showing_as c.drawn-drawn.ensures c.seens_for.ensures in
-    let words = carries_as c.drawn-drawn.ensures refl c.news_for.ensures in
+    let seens = c.seens_for.ensures in
+    let words = c.news_for.ensures in
     record {
       is = c.settled-station.ensures
           ∙ same_station {t = heard_words e (bundle_of p) ts s} refl (c.hear_all.ensures.is ∙ ap (λ (k : ℕ). takes_all (eqb p.drawn k) e xs ts s.box) c.last.ensures);

@@ -16,15 +16,15 @@ use Rattle.station.proofs.state.Station.hears_seens.Goals as goal
 pub seen_all-router-requires : goal.seen_all-router-requires
 seen_all-router-requires c =
     let s = station_of c.args.self in
-    let e = c.in-Ok.from in
-    let is = teller_is c.args.wire s e (joined_had s c.args.self.joined) c.in-Ok.ensures.from in
-    let p = admitted s.box.n (teller c.args.wire s.links) c.args.seens.count c.args.seens.items c.in-Ok.ensures.refused in
-    (p.0, (is.0, (is.1, p.1)))
+    let e = c.in_ok-from.from in
+    let is = teller_is c.args.wire s e (joined_had s c.args.self.joined) c.in_ok-from.ensures.from in
+    let p = admitted s.box.n (teller c.args.wire s.links) c.args.seens.count c.args.seens.items c.in_ok-from.ensures.refused in
+    (is.0, (is.1, p.1))
 
 pub rejoined-requires : goal.rejoined-requires
 rejoined-requires c =
     let s = station_of c.args.self in
-    let e = c.in-Ok.from in
+    let e = c.in_ok-from.from in
     let xs = (seens_of c.args.seens).items in
     let q = c.seen_all-router.ensures in (
       subst (λ (b : Box). Joined (with_box b s)) (sym q) (seen_joined e xs s (joined_had s c.args.self.joined)),
@@ -34,24 +34,24 @@ rejoined-requires c =
 pub returns-then-seens-last : goal.returns-then-seens-last
 returns-then-seens-last c =
     let s = station_of c.args.self in
-    let e = c.in-Ok.from in
+    let e = c.in_ok-from.from in
     let p = seens_of c.args.seens in
     record {
       so = λ es st. st;
-      refused = c.in-Ok.ensures.refused;
-      is = sym (ap (λ (o : Option ℕ). seens_from o p s) c.in-Ok.ensures.from
+      refused = c.in_ok-from.ensures.refused;
+      is = sym (ap (λ (o : Option ℕ). seens_from o p s) c.in_ok-from.ensures.from
           ∙ ap (λ (b : Bool). with_box (cond b (sees_all e p.items s.box) s.box) s) (ne_eqb p.drawn (s.links.last e) (λ q. c.if-seens-last.true (q ∙ sym c.last.ensures))));
     }
 
-pub returns-else-seens-last : goal.returns-else-seens-last
-returns-else-seens-last c =
+pub returns : goal.returns
+returns c =
     let s = station_of c.args.self in
-    let e = c.in-Ok.from in
+    let e = c.in_ok-from.from in
     let p = seens_of c.args.seens in
     let fits = ap (λ (b : Bool). with_box (cond b (sees_all e p.items s.box) s.box) s) (eq-eqb p.drawn (s.links.last e) (c.if-seens-last.false ∙ c.last.ensures)) in
     let is : station_of c.rejoined.result ≡ heard_seens e p s = c.rejoined.ensures ∙ same_station {t = with_box (sees_all e p.items s.box) s} refl c.seen_all-router.ensures ∙ sym fits in
     record {
-      refused = c.in-Ok.ensures.refused;
-      is = is ∙ sym (ap (λ (o : Option ℕ). seens_from o p s) c.in-Ok.ensures.from);
+      refused = c.in_ok-from.ensures.refused;
+      is = is ∙ sym (ap (λ (o : Option ℕ). seens_from o p s) c.in_ok-from.ensures.from);
       so = did_as s (heard_seens e p s) (station_of c.rejoined.result) [] (joined_had s c.args.self.joined) is (λ es. seens_so_lem s es e p);
     }

@@ -8,4 +8,4 @@ use Rattle.station.proofs.state.Station.new.Goals as goal
 pub settled-requires : goal.settled-requires
 settled-requires c =
     let a = c.args in
-    subst Joined (sym (same_station {t = station a.n a.me a.drawn} c.in-Ok.ensures.is c.in-Ok-begin.ensures.is)) (joined_new a.n a.me a.drawn)
+    subst Joined (sym (same_station {t = station a.n a.me a.drawn} c.in_ok-links.ensures.is c.in_ok-router.ensures.is)) (joined_new a.n a.me a.drawn)

@@ -1,5 +1,5 @@
 -- The wires stay sound.
-use Rattle.std.proofs.Common.{ap, ◌∙◌, rules}
+use Rattle.std.proofs.Common.{ap, ◌∙◌}
 use Rattle.messages.specs.Values.{at}
 use Rattle.hello.specs.State.{links_of}
 use Rattle.linkmodel.specs.Hellos.{Rewires}
@@ -15,14 +15,10 @@ use Rattle.station.proofs.state.Station.rewire.Goals as goal
 pub relinked-requires : goal.relinked-requires
 relinked-requires c =
     let s = station_of c.args.self in
-    still_sound (Rewires (at c.args.settings.costs)) s.links (links_of c.in-Ok.links) (joined_had s c.args.self.joined).sound c.in-Ok.ensures.is
+    still_sound (Rewires (at c.args.settings.costs)) s.links (links_of c.in_ok-links.links) (joined_had s c.args.self.joined).sound c.in_ok-links.ensures.is
 
-pub returns-in-Ok : goal.returns-in-Ok
-returns-in-Ok c =
+pub returns-clause-so : goal.returns-clause-so
+returns-clause-so c =
     let s = station_of c.args.self in
-    let is = c.relinked.ensures ∙ ap (λ (l : Links). relink_as l s) c.in-Ok.ensures.is in
-    record {
-      refused = search rules;
-      is = is;
-      so = did_as s (has_costs (at c.args.settings.costs) s) (station_of c.relinked.result) (relinks s.links (rewired (at c.args.settings.costs) s.links) s.box.n) (joined_had s c.args.self.joined) is (λ es. costs_so_lem s es (at c.args.settings.costs));
-    }
+    let is = c.relinked.ensures ∙ ap (λ (l : Links). relink_as l s) c.in_ok-links.ensures.is in
+    did_as s (has_costs (at c.args.settings.costs) s) (station_of c.relinked.result) (relinks s.links (rewired (at c.args.settings.costs) s.links) s.box.n) (joined_had s c.args.self.joined) is (λ es. costs_so_lem s es (at c.args.settings.costs))
