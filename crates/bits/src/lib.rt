@@ -4,7 +4,7 @@
 // It promises what every bit of an answer is, and takes any place: one of 64 or more is in no number, and changes none.
 #![tactic(auto)]
 
-ghost use Rattle.std.specs.Prelude.{◌≡◌, ℕ, not, ◌&&◌, ◌||◌, length, ◌==◌, nat_lt};
+ghost use Rattle.std.specs.Prelude.{◌≡◌, ℕ, not, ◌&&◌, ◌||◌, length, ◌==◌, nat_lt, take};
 ghost use Rattle.bits.specs.Bits.{bit, four_lowest, padded};
 
 // Whether place i is in x; none of 64 or more is.
@@ -36,11 +36,20 @@ pub fn without(x: u64, y: u64) -> u64
 }
 
 // Up to four places, rising: the first `count` of `items`, and 0 after them.
-// Kept: a count beside an array, since a box is copied and owns nothing on the heap, and neither a Vec nor an ArrayVec is Copy.
+// Kept: a count beside four places, as in the packet of words that is made of it. The library's ArrayVec has no count to hand on, and is not `Copy`, as `telling`'s `Ticked` is.
 #[derive(Clone, Copy, Debug, PartialEq, Eq, Default)]
 pub struct Picked {
     pub count: u8,
     pub items: [u8; 4],
+}
+
+impl Picked {
+    // The places that it holds: the first `count`, or all four where that says more.
+    pub fn places(&self) -> &[u8]
+        ensures { result.now ≡ take self.now.count self.now.items }
+    {
+        &self.items[..usize::from(self.count).min(4)]
+    }
 }
 
 // The lowest four places of x, or all where they are fewer.
@@ -95,7 +104,9 @@ mod tests {
             (u64::MAX << 60, 4, [60, 61, 62, 63]),
             (1 << 63, 1, [63, 0, 0, 0]),
         ] {
-            assert_eq!(rt; lowest_four(x), Picked { count, items });
+            let picked = lowest_four(x);
+            assert_eq!(rt; picked, Picked { count, items });
+            assert_eq!(rt; picked.places().len(), usize::from(count));
         }
     }
 }

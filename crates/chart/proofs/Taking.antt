@@ -6,11 +6,10 @@ use Rattle.model.proofs.Fars.{at_inj}
 use Rattle.model.proofs.Hopping.{hop_pick}
 use Rattle.model.proofs.Settled.{far_self}
 use Rattle.ways.proofs.Firsts.{Fit, Lowest, fit_back, fit_on, hop_lowest, lowest_hop}
-use Rattle.journal.specs.Held.{same_hop}
 use Rattle.journal.specs.Replay.{Known}
 use Rattle.journal.specs.State.{map_of, next_to}
 use Rattle.chart.specs.Laws.{Reached}
-use Rattle.chart.specs.Ways.{next_over, on_least_way, on_taken_way}
+use Rattle.chart.specs.Ways.{next_over, on_least_way, on_taken_way, same_hop}
 use Rattle.chart.proofs.Leading.{distance_is, leads_to}
 
 -- the next box towards a box that there is

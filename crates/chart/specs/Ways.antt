@@ -1,7 +1,6 @@
 -- The way to a box, and the roads on least ways, by what a journal says. Assumes nothing.
-use Rattle.std.specs.Prelude.{ℕ, ◌+◌, Bool, false, cond, ◌&&◌, Some, None, Option, ◌==◌, nat_lt}
+use Rattle.std.specs.Prelude.{ℕ, ◌+◌, Bool, true, false, cond, ◌&&◌, Some, None, Option, ◌==◌, nat_lt}
 use Rattle.model.specs.Map.{Far, Never, At, Hop, Nowhere, To}
-use Rattle.journal.specs.Held.{same_hop}
 use Rattle.journal.specs.Replay.{Known}
 use Rattle.journal.specs.State.{distance_to, map_of, next_to}
 use Rattle.chart.specs.declared.way.Way.{Way}
@@ -29,6 +28,13 @@ on_least_way a e k = leads_on (distance_to a k) ((map_of k).cost a e) (distance_
 -- the next box on the way to e over a: e itself from the journal's own box, else the next box towards a
 abbrev pub next_over : ℕ → ℕ → Known → Hop
 next_over a e k = cond (a == k.me) (To e) (next_to a k)
+
+-- the same next box, or nowhere both
+abbrev pub same_hop : Hop → Hop → Bool
+same_hop Nowhere Nowhere = true
+same_hop Nowhere (To e) = false
+same_hop (To a) Nowhere = false
+same_hop (To a) (To e) = a == e
 
 -- the road from a to e is on a least way to e that begins with the next box towards e
 abbrev pub on_taken_way : ℕ → ℕ → Known → Bool

@@ -8,6 +8,8 @@ use journal::Memory;
 use messages::WordId;
 
 // The numbers of the word that the box `by` has, with count 0 and tag 0 for none.
+// Kept: no Option, since the model's word of a box that never said one has count 0 too, and no word that was said has it: a box without one is behind each that has
+// one by the comparisons themselves, with no case of its own.
 #[derive(Clone, Copy, Debug, PartialEq, Eq)]
 pub struct Held {
     pub by: u8,
@@ -31,7 +33,7 @@ impl Held {
     }
 
     // Newer, or the same at a lower box.
-    // Kept: two words of different boxes compare by count and tag alone, and of the boxes that have one the lower goes first, so that no order derived from the fields is this one.
+    // Kept: what two boxes have of a third compares by count and tag, the newer first, and only then by the box that has it, the lower first: no order derived from the fields is this one.
     fn goes_before(self, other: Held) -> bool
         ensures { result ≡ goes_before self other }
     {

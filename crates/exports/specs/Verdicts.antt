@@ -1,17 +1,16 @@
 -- Answers as numbers, and what is left in lent memory after them.
 -- Assumes nothing.
-use Rattle.std.specs.Prelude.{ℕ, ◌+◌, ◌-◌, ◌≤◌, Bool, true, cond, ◌&&◌, List, length, Some, None, Ok, Err, Option, Result, ◌==◌, nat_le}
+use Rattle.std.specs.Prelude.{ℕ, ◌+◌, ◌-◌, Bool, true, cond, ◌&&◌, List, length, Some, None, Ok, Err, Option, Result, nat_le}
 use Rattle.octets.specs.declared.Fault.{Fault}
 use Rattle.octets.specs.declared.Fault.TheVariants.{Range}
 use Rattle.octets.specs.Writes.{put}
 use Rattle.octets.specs.Faults.{fault_number}
-use Rattle.frames.specs.Reading.{Told, a_hello, some_words, some_seen, a_packet, frame_in, line_in, settings_in, value_in}
+use Rattle.frames.specs.Reading.{Told, frame_in, line_in, settings_in, value_in}
 use Rattle.frames.specs.declared.values.Line.{Line}
 use Rattle.packets.specs.declared.values.Errand.{Errand}
 use Rattle.packets.specs.declared.values.Errand.TheVariants.{HandOut, Echo, Onward}
 use Rattle.packets.specs.declared.values.Refusal.{Refusal}
 use Rattle.packets.specs.declared.values.Trouble.{Trouble}
-use Rattle.packets.specs.declared.values.Trouble.TheVariants.{TimeExceeded, Unreachable}
 use Rattle.packets.specs.Errands.{refusal_number}
 use Rattle.packets.specs.Errors.{error_of}
 
@@ -52,10 +51,6 @@ errand_number (Ok HandOut) = 0
 errand_number (Ok Echo) = 1
 errand_number (Ok (Onward to)) = 2 + to
 errand_number (Err refusal) = 256 + refusal_number refusal
-
--- which error an ICMP type stands for
-abbrev pub trouble_of : ℕ → Option Trouble
-trouble_of kind = cond (kind == 11) (Some TimeExceeded) (cond (kind == 3) (Some Unreachable) None)
 
 -- how many of these bytes are written: all, or none where they do not fit
 abbrev pub fitting : List ℕ → List ℕ → ℕ

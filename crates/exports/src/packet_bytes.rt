@@ -1,7 +1,7 @@
 // Packets: what one is for, and what becomes of it.
-ghost use Rattle.exports.specs.Verdicts.{errand_number, left_by, length_by, trouble_of};
+ghost use Rattle.exports.specs.Verdicts.{errand_number, left_by, length_by};
 ghost use Rattle.packets.specs.Errands.{errand_of};
-ghost use Rattle.packets.specs.Errors.{is_error};
+ghost use Rattle.packets.specs.Errors.{is_error, trouble_of};
 ghost use Rattle.packets.specs.Packet.{echoed, handed_on};
 ghost use Rattle.std.specs.Prelude.{◌≡◌};
 
@@ -50,10 +50,8 @@ pub extern "C" fn router_write_error(me: u8, kind: u8, packet: &[u8], out: &mut 
     ensures long { result ≡ length_by (trouble_of kind) me packet.now out.old }
     ensures left { out.new ≡ left_by (trouble_of kind) me packet.now out.old }
 {
-    let trouble = match kind {
-        11 => Trouble::TimeExceeded,
-        3 => Trouble::Unreachable,
-        _ => return 0,
+    let Ok(trouble) = Trouble::try_from(kind) else {
+        return 0;
     };
     write_error(me, trouble, packet, out).unwrap_or(0)
 }

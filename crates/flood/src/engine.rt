@@ -156,9 +156,7 @@ impl Net {
         };
         for me in 0..count {
             let drawn = net.draw();
-            let Ok(station) = Station::new(count, me, drawn) else {
-                return Err(Trouble::Refused(Fault::Form));
-            };
+            let station = Station::new(count, me, drawn).or(Err(Fault::Form))?;
             net.boxes.push(station)?;
         }
         Ok(net)
@@ -166,11 +164,12 @@ impl Net {
 
     // The roads and words of all boxes.
     fn routers(&self) -> Result<Vec<Router>, Trouble> {
-        let mut routers = Vec::new(self.heap);
-        for station in self.boxes.iter() {
-            routers.push(station.router())?;
-        }
-        Ok(routers)
+        Ok(
+            self.boxes
+                .iter()
+                .map(|station| station.router())
+                .collect(self.heap)?,
+        )
     }
 
     pub(crate) fn at_rest(&self) -> Result<bool, Trouble> {
@@ -194,9 +193,9 @@ impl Net {
         }
     }
 
-    // The wire between two boxes, if there is one: which of the cables it is.
-    fn cable(&self, a: u8, e: u8) -> Option<usize> {
-        self.cables.iter().position(|cable| cable.joins(a, e))
+    // The wire between two boxes, if there is one.
+    fn cable(&self, a: u8, e: u8) -> Option<Cable> {
+        self.cables.iter().find(|cable| cable.joins(a, e)).copied()
     }
 
     // The lowest wire of a box that is joined to nothing.
@@ -232,7 +231,7 @@ impl Net {
         self.station(a)?;
         self.station(e)?;
         match self.cable(a, e) {
-            Some(k) => self.change(k, a, cost, back),
+            Some(cable) => self.change(cable, a, cost, back),
             None if cost > 0 => self.lay(a, e, cost, back)?,
             None => {}
         }
@@ -257,10 +256,7 @@ impl Net {
         Ok(())
     }
 
-    fn change(&mut self, k: usize, a: u8, cost: u16, back: u16) {
-        let Some(cable) = self.cables.get(k).copied() else {
-            return;
-        };
+    fn change(&mut self, cable: Cable, a: u8, cost: u16, back: u16) {
         let (here, there) = cable.ends_from(a);
         self.set_cost(here, cost);
         self.set_cost(there, back);
@@ -287,26 +283,27 @@ impl Net {
 
     // The next things from a to e are lost, besides those that are lost already.
     fn lose(&mut self, a: u8, e: u8, count: u32) -> Result<(), Trouble> {
-        let k = self.cable(a, e).ok_or(Fault::Form)?;
-        if let Some(cable) = self.cables.get_mut(k) {
-            let side = cable.side_at(a);
-            side.losing = side.losing.saturating_add(count);
-        }
+        let cable = self
+            .cables
+            .iter_mut()
+            .find(|cable| cable.joins(a, e))
+            .ok_or(Fault::Form)?;
+        let side = cable.side_at(a);
+        side.losing = side.losing.saturating_add(count);
         Ok(())
     }
 
-    // One thing goes over a cable from a: whether it gets through.
-    fn gets_through(&mut self, k: usize, a: u8) -> bool {
-        let Some(cable) = self.cables.get_mut(k) else {
-            return false;
-        };
-        let side = cable.side_at(a);
+    // One thing goes out on a wire of a box: where it gets to, unless it is lost or nothing is joined to that wire.
+    fn gets_to(&mut self, from: End) -> Option<End> {
+        let cable = self.cables.iter_mut().find(|cable| cable.has(from))?;
+        let (_, to) = cable.ends_from(from.at);
+        let side = cable.side_at(from.at);
         match side.losing.checked_sub(1) {
             Some(left) => {
                 side.losing = left;
-                false
+                None
             }
-            None => true,
+            None => Some(to),
         }
     }
 
@@ -317,14 +314,7 @@ impl Net {
         frame: Frame,
         out: &mut Vec<Letter>,
     ) -> Result<(), Trouble> {
-        let Some(k) = self.cables.iter().position(|cable| cable.has(from)) else {
-            return Ok(());
-        };
-        let Some(cable) = self.cables.get(k).copied() else {
-            return Ok(());
-        };
-        if self.gets_through(k, from.at) {
-            let (_, to) = cable.ends_from(from.at);
+        if let Some(to) = self.gets_to(from) {
             out.push(Letter { to, frame })?;
         }
         Ok(())
@@ -334,7 +324,7 @@ impl Net {
     fn ticks(&mut self, count: u32) -> Result<(), Trouble> {
         for _t in 0..count {
             let mut out = Vec::new(self.heap);
-            for a in 0u8..64 {
+            for a in (0u8..64).take(self.boxes.len()) {
                 self.tick_box(a, &mut out)?;
             }
             let arriving = std::mem::replace(&mut self.flight, Vec::new(self.heap));
@@ -420,8 +410,9 @@ impl Net {
         let route = net::follow(routers.as_slice(), a, e);
         for road in route.boxes().windows(2) {
             if let [at, next] = *road {
-                if let Some(k) = self.cable(at, next) {
-                    if !self.gets_through(k, at) {
+                if let Some(cable) = self.cable(at, next) {
+                    let (from, _) = cable.ends_from(at);
+                    if self.gets_to(from).is_none() {
                         return Ok(Fate::Lost(at, next));
                     }
                 }
@@ -433,7 +424,7 @@ impl Net {
     // A line of a net that is played already, and what became of the packet that it sends, if it does.
     pub(crate) fn obey(&mut self, command: Command) -> Result<Option<Fate>, Trouble> {
         match command {
-            Command::Boxes(_) => return Err(Trouble::Refused(Fault::Form)),
+            Command::Boxes(_) => return Err(Fault::Form.into()),
             Command::Road(a, e, cost, back) => self.road(a, e, cost, back)?,
             Command::Fall(a) => self.fall(a)?,
             Command::Lose(a, e, count) => self.lose(a, e, count)?,

@@ -1,19 +1,12 @@
 -- Lists of numbers and of wires as functions of a place.
 use Rattle.std.proofs.Common.{◌≡◌, ℕ, zero, suc, ◌≤◌, List, length, replicate, refl, ap}
 use lib.ListN.{get_or-eq_default}
-use Rattle.messages.specs.Values.{at}
 use Rattle.linkmodel.specs.Links.{Silent as Unheard}
 use Rattle.hello.specs.State.{wire_of, wire_at}
 use Rattle.hello.specs.declared.state.Wire.{Wire}
 use Rattle.hello.specs.declared.state.Wire.TheVariants.{Silent}
 
--- n times 0 is 0 everywhere, past its end too
-pub at_zeros : (n i : ℕ) → at (replicate n 0) i ≡ 0
-at_zeros zero i = refl
-at_zeros (suc n) zero = refl
-at_zeros (suc n) (suc i) = at_zeros n i
-
--- and n silent wires are silent everywhere
+-- n silent wires are silent everywhere
 pub all_silent : (n i : ℕ) → wire_at (replicate n Silent) i ≡ Unheard
 all_silent zero i = refl
 all_silent (suc n) zero = refl

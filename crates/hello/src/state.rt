@@ -19,6 +19,7 @@ pub enum Wire {
 
 // Box `me` of `n`, the number that it drew, and how often it ticked. `costs`: what each wire costs, 0 if there is none.
 // `last`: the drawn number of the last hello taken from each box, on any wire, 0 if there was none.
+// Kept: `costs` and `wires` are arrays of their own: the costs come whole with the settings and stay over a fall, which clears the wires.
 #[derive(Clone, Copy, Debug, PartialEq, Eq)]
 pub struct Links {
     pub(crate) n: u8,

@@ -1,4 +1,3 @@
 pub mod Local
 pub mod Replays
 mod Going
-mod Tables

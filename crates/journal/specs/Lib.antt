@@ -1,5 +1,4 @@
 pub mod Replay
 pub mod Laws
-pub mod Held
 pub mod State
 pub mod Turns

@@ -1,17 +1,17 @@
 -- What the state and the answers stand for, and what the words that are known say of ways. Assumes nothing.
 use Rattle.std.specs.Prelude.{◌≡◌, ℕ, ◌<◌, cond, Some, None, Option, nat_lt}
+use Rattle.database.specs.State.{words_in}
 use Rattle.messages.specs.Values.{entry_of}
 use Rattle.messages.specs.declared.values.Word.{Word}
 use Rattle.model.specs.Forward.{cost_by}
-use Rattle.model.specs.Map.{Map, Far, Never, At, Hop, Nowhere, To, far, hop}
-use Rattle.ways.specs.Numbers.{entry_at}
+use Rattle.model.specs.Map.{Map, Far, Never, Hop, Nowhere, far, hop}
 use Rattle.journal.specs.declared.notes.Notes.{Notes}
 use Rattle.journal.specs.declared.memory.Memory.{Memory}
 use Rattle.journal.specs.Replay.{Known}
 
 -- what the lines so far have noted
 abbrev pub known_by : Notes → Known
-known_by s = record { n = s.n; me = s.me; word = entry_at s.counts s.tags s.costs }
+known_by s = record { n = s.n; me = s.me; word = words_in s.words }
 
 -- what was known then
 abbrev pub known_of : Memory → Known
@@ -28,16 +28,6 @@ distance_to d k = cond (nat_lt d k.n) (far (map_of k) d k.me) Never
 -- the next box towards d; nowhere for a number of no box
 abbrev pub next_to : ℕ → Known → Hop
 next_to d k = cond (nat_lt d k.n) (hop (map_of k) d k.me) Nowhere
-
--- a distance as the model has it
-abbrev pub far_of : Option ℕ → Far
-far_of None = Never
-far_of (Some c) = At c
-
--- a next box as the model has it
-abbrev pub hop_of : Option ℕ → Hop
-hop_of None = Nowhere
-hop_of (Some e) = To e
 
 -- the word of box i, none if it never said one
 abbrev pub IsWord : ℕ → Known → Option Word → Type 0

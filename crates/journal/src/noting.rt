@@ -1,14 +1,14 @@
 // Noting one line after the other.
-ghost use Rattle.std.specs.Prelude.{◌≡◌, ◌-◌, ◌<◌, ◌≤◌};
+ghost use Rattle.std.specs.Prelude.{◌≡◌, ◌-◌, ◌≤◌};
 ghost use Rattle.frames.specs.Ranges.{EntryInRange};
-ghost use Rattle.journal.specs.Replay.{begun, noted, with_word};
+ghost use Rattle.journal.specs.Replay.{begun, noted};
 ghost use Rattle.journal.specs.State.{known_by, known_of};
 ghost use Rattle.journal.specs.Turns.{Turned};
 
 use crate::memory::Memory;
 use crate::notes::Notes;
+use database::Database;
 use frames::{Entry, Fault, read_line};
-use messages::Word;
 
 impl Notes {
     // A box among n that has no words; none among none.
@@ -19,22 +19,8 @@ impl Notes {
         Notes {
             n,
             me,
-            counts: [0; 64],
-            tags: [0; 64],
-            costs: [[0; 64]; 64],
+            words: Database::new(),
         }
-    }
-
-    // From now on it has this word.
-    fn has(&mut self, word: Word)
-        requires { word.id.about < 64 }
-        ensures { known_by self.new ≡ with_word word (known_by self.old) }
-    {
-        let about = usize::from(word.id.about);
-        self.counts[about] = word.id.count;
-        self.tags[about] = word.id.tag;
-        let costs = word.costs;
-        self.costs[about] = costs;
     }
 
     // Notes what a line says.
@@ -44,7 +30,7 @@ impl Notes {
     {
         match entry {
             Entry::Began(n, me) => *self = Notes::begun(n, me),
-            Entry::Said(word) | Entry::Taken(word) => self.has(word),
+            Entry::Said(word) | Entry::Taken(word) => self.words.put(word),
             Entry::Refused(_) => {}
         }
     }
@@ -68,18 +54,7 @@ impl Notes {
     pub(crate) fn remembered(self) -> Memory
         ensures { known_of result ≡ known_by self }
     {
-        let mut far = [ways::NEVER; 64];
-        let mut next = [ways::NONE; 64];
-        let words = ways::Words {
-            counts: &self.counts,
-            tags: &self.tags,
-            costs: &self.costs,
-        };
-        let _ = ways::least_ways(self.n, self.me, words, &mut far, &mut next);
-        Memory {
-            notes: self,
-            far,
-            next,
-        }
+        let table = self.words.ways(self.n, self.me);
+        Memory { notes: self, table }
     }
 }

@@ -29,7 +29,7 @@ pub fn replay(bytes: &[u8], until: u32) -> Outcome
 {
     let mut notes = Notes::begun(0, 0);
     let mut place = 0;
-    let fault = 'lines: loop {
+    let fault = loop {
         match notes.note_line(&bytes[place..], until) {
             Ok(Some(long)) => place += long,
             Ok(None) => break None,

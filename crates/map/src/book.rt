@@ -1,5 +1,6 @@
 // A journal file, and the tick up to which it is read.
 use journal::{Memory, Outcome};
+use octets::Fault;
 use std::{fmt, fs, io};
 
 // What the journal in a file says up to a tick. What is wrong with the file is said on standard error.
@@ -24,21 +25,20 @@ pub(crate) fn tick(word: &str) -> Option<u32> {
 // What is wrong with a line of a journal, and where it begins.
 #[derive(Clone, Copy, Debug, PartialEq, Eq)]
 pub(crate) struct Wrong {
-    number: u8,
+    fault: Fault,
     place: usize,
 }
 
 impl fmt::Display for Wrong {
     fn fmt<W: fmt::Write>(&self, f: &mut fmt::Formatter<W>) -> fmt::Result {
-        let Wrong { number, place } = *self;
-        write!(f, "fault {number} at {place}")
+        write!(f, "fault {} at {}", u8::from(self.fault), self.place)
     }
 }
 
 // What is wrong with the line after those that were read, if anything is.
 pub(crate) fn fault_of(book: &Outcome) -> Option<Wrong> {
     book.fault.map(|fault| Wrong {
-        number: u8::from(fault),
+        fault,
         place: book.place,
     })
 }

@@ -6,10 +6,10 @@ use std::io;
 
 // Whether a book's box lacks the newest word of the box `about`, with a line for each that does.
 fn tell_lacking(rt: &HostRuntime, books: &[Memory], about: u8) -> io::Result<bool> {
-    let mut all = Vec::new(rt.alloc());
-    for memory in books {
-        all.push(Held::of(memory, about))?;
-    }
+    let all: Vec<Held> = books
+        .iter()
+        .map(|memory| Held::of(memory, about))
+        .collect(rt.alloc())?;
     let Some((first, others)) = all.as_slice().split_first() else {
         return Ok(false);
     };

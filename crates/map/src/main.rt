@@ -43,11 +43,7 @@ fn refuse(rt: &HostRuntime, why: impl fmt::Display + Drop) -> io::Result<()> {
 fn words(rt: &HostRuntime) -> io::Result<Vec<String>> {
     let mut args = env::args(rt)?;
     let _program = args.next();
-    let mut words = Vec::new(rt.alloc());
-    for word in args {
-        words.push(word)?;
-    }
-    Ok(words)
+    Ok(args.collect(rt.alloc())?)
 }
 
 // Shows a book, up to a tick if there is one.

@@ -39,7 +39,8 @@ pub struct Hello {
 }
 
 // How many boxes there are, which of them this is, and what each of its wires costs, 0 for none.
-// Kept: here and wherever a cost, a count or a number heard is 0 for none, since the bytes have it so, and the model too, which the contracts name.
+// Kept: 0 for a wire that there is not. So it is of a road that isn't open (`Word`, `Links`, `Router`, `Database`), of a word that was never said (the count of a `WordId`) and of a drawn number that was not heard (`Hello`, `Links`):
+// the model, which every contract names, has 0 for none in its costs, words and numbers, and costs, counts and drawn numbers themselves are never 0.
 #[derive(Clone, Copy, Debug, PartialEq, Eq)]
 pub struct Settings {
     pub boxes: u8,

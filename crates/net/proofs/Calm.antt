@@ -1,10 +1,7 @@
 -- The tests of the code and the test of rest say the same.
 use Rattle.std.proofs.Common.{◌≡◌, ℕ, ◌<◌, Bool, true, false, not, ◌&&◌, ◌||◌, eqb, ltb, ◌⊎◌, List, length, get_or, sym, refl, ap, ◌∙◌, inl, inr}
 use Rattle.std.proofs.lemmas.Bool.{and_from, and_left, and_right, and_parts, eq-eqb, ne_eqb, eqb-true, not_from_true}
-use Rattle.messages.specs.Values.{same_id}
-use Rattle.messages.specs.declared.values.WordId.{WordId}
 use Rattle.model.specs.Box.{Box, own_so, must_say}
-use Rattle.model.specs.Code.{same_word}
 use Rattle.model.specs.Promise.{Rest, all_below, own_true}
 use Rattle.model.specs.Settling.{at_rest}
 use Rattle.model.proofs.Resting.{rest_test_lem}
@@ -13,13 +10,6 @@ use Rattle.router.specs.State.{box_of}
 use Rattle.router.specs.declared.state.Router.{Router}
 use Rattle.net.specs.Nets.{box_in, world_of, Numbered, agrees_with, is_placed, calm_at}
 use Rattle.net.proofs.Alls.{all_at, all_same, box_at}
-
--- the numbers of the word that a box has of i
-abbrev id_at : Router → ℕ → WordId
-id_at s i = record { about = i; count = ((box_of s).word i).number; tag = ((box_of s).word i).tag }
-
-pub same_ids : (one other : Router) (i : ℕ) (x y : WordId) → x ≡ id_at one i → y ≡ id_at other i → same_id x y ≡ same_word ((box_of one).word i) ((box_of other).word i)
-same_ids one other i x y e f = λ k. same_id (e k) (f k)
 
 -- the box at a place that was read
 pub box_read : (ss : List Router) (a : ℕ) (s : Router) → a < length ss → s ≡ get_or ss a s → box_in ss a ≡ box_of s
@@ -44,10 +34,6 @@ pub calm_owes : (ss : List Router) (a : ℕ) (s : Router) → box_in ss a ≡ bo
 calm_owes ss a s e h =
     and_right (is_placed ss a) (calm_rest ss a)
     (and_left (not (must_say (box_in ss a))) (all_below (length ss) (λ e. agrees_with (length ss) (box_in ss a) a (box_in ss e) e)) (not_from_true (must_say (box_in ss a)) (ap must_say e ∙ h)))
-
--- two boxes that were read agree just as those at their places
-pub agree_read : (ss : List Router) (a e : ℕ) (s t : Router) → box_in ss a ≡ box_of s → box_in ss e ≡ box_of t → agrees_with (length ss) (box_in ss a) a (box_in ss e) e ≡ agrees_with (length ss) (box_of s) a (box_of t) e
-agree_read ss a e s t p q = λ k. agrees_with (length ss) (p k) a (q k) e
 
 -- a box at its place that owes nothing is calm just where it agrees with every box
 pub calm_when : (ss : List Router) (a : ℕ) (s : Router) → box_in ss a ≡ box_of s → is_placed ss a ≡ true → must_say (box_of s) ≡ false → calm_at ss a ≡ all_below (length ss) (λ e. agrees_with (length ss) (box_in ss a) a (box_in ss e) e)

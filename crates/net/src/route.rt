@@ -16,7 +16,7 @@ pub enum Ending {
 }
 
 // The boxes that a packet came to, one more than its steps, what its way cost so far, and how it ended.
-// Kept: a way of 64 places with the number of steps beside, since a Vec could run out of memory, and then following a packet could fail.
+// Kept: a way of 64 places with the number of steps beside. A Vec could run out of memory, and then following a packet could fail; the library's ArrayVec is not `Copy`, as a route is.
 #[derive(Clone, Copy, Debug, PartialEq, Eq)]
 pub struct Route {
     pub way: [u8; 64],
@@ -53,7 +53,7 @@ pub fn follow(boxes: &[Router], from: u8, to: u8) -> Route
     }
     let n = boxes.len() as u8;
     let mut at = from;
-    // Kept: three returns from the loop, since a `for` breaks with no value, and with `loop` the turns would be counted by hand.
+    // Kept: three returns from the loop, each with how the packet ended. A `break` with the ending put into `route` would leave the end of the loop with four cases, whose meanings its invariant would have to repeat.
     for turn in 0..n {
         if at == to {
             return Route {

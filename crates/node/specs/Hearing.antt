@@ -1,5 +1,5 @@
 -- What comes over a wire: what it leaves, and what is given out. Assumes nothing.
-use Rattle.std.specs.Prelude.{◌≡◌, ℕ, zero, suc, List, [], ◌∷◌, ◌++◌, length, take, Some, None, Ok, Err, Option, Result, slice_index, slice_index_or}
+use Rattle.std.specs.Prelude.{◌≡◌, ◌^◌, ◌<◌, ◌≤◌, ℕ, zero, suc, List, [], ◌∷◌, ◌++◌, length, take, Some, None, Ok, Err, Option, Result, slice_index, slice_index_or}
 use Rattle.std.specs.List.{flat_map}
 use Rattle.octets.specs.declared.Fault.{Fault}
 use Rattle.messages.specs.Packets.{Seens}
@@ -83,6 +83,10 @@ by_frame w (Ok (a_hello h)) ts s q f = unless_refused (hello_refusal w (greeting
 by_frame w (Ok (some_words p)) ts s q f = unless_refused (words_refusal w p s) (handled (words_leave w p ts s) (words_give w p ts s) q f) s q f
 by_frame w (Ok (some_seen p)) ts s q f = unless_refused (seens_refusal w p s) (handled (seens_from (teller w s.links) (seens_of p) s) [] q f) s q f
 by_frame w (Ok (a_packet p)) ts s q f = passed_as (passed s q f) s
+
+-- at most four words, each of a count below 2 ^ 63
+abbrev pub Counted : Words → Type 0
+Counted p = (p.count ≤ 4) × ((i : ℕ) → i < p.count → (slice_index_or p.items i no_word).id.count < 2 ^ 63)
 
 -- a packet holds as many seens as its count says
 abbrev pub FullSeens : Seens → Type 0

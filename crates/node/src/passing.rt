@@ -15,6 +15,8 @@ use crate::state::Node;
 use outbox::{Outbox, Port};
 use packets::{Errand, Trouble};
 
+// Kept: a frame is bytes of which four functions ask that there are five. A struct of it would hold a `&mut [u8]`, and each of them would have to promise as well that it still lends the same bytes.
+
 // The packet in a frame: without the kind before it and the sum behind it.
 fn packet_in(frame: &[u8]) -> &[u8]
     requires { 5 ≤ length frame.now }
@@ -39,7 +41,7 @@ fn turn<F: FnOnce(&mut [u8])>(frame: &mut [u8], turned: F)
 fn source(packet: &[u8]) -> u8
     ensures { result ≡ box_from packet.now }
 {
-    packet.get(13).copied().unwrap_or(0)
+    packets::byte_at(packet, 13)
 }
 
 impl Node {

@@ -1,11 +1,11 @@
 // What comes over a wire, and from a house.
-ghost use Rattle.std.specs.Prelude.{◌≡◌, ℕ, ◌^◌, ◌<◌, ◌≤◌, [], Ok, Err, IfOk, slice_index_or};
+ghost use Rattle.std.specs.Prelude.{◌≡◌, ◌<◌, ◌≤◌, [], Ok, Err, IfOk};
 ghost use Rattle.checksum.specs.Crc.{SumFits};
 ghost use Rattle.checksum.specs.Refused.{body_of};
 ghost use Rattle.frames.specs.Ranges.{InRange};
 ghost use Rattle.frames.specs.Reading.{Told, a_hello, frame_in, some_seen, some_words, told_by};
 ghost use Rattle.node.specs.Handled.{GivesSo, HandledBy, HeardBy, HeardSo, PassedBy, ReadAs};
-ghost use Rattle.node.specs.Hearing.{FrameDid, by_frame, refused_by, untouched, words_give, words_leave};
+ghost use Rattle.node.specs.Hearing.{Counted, FrameDid, by_frame, refused_by, untouched, words_give, words_leave};
 ghost use Rattle.node.specs.Passing.{passed};
 ghost use Rattle.node.specs.State.{whole_of};
 ghost use Rattle.outbox.specs.Parcels.{HasRoom, contents};
@@ -14,7 +14,6 @@ ghost use Rattle.linkmodel.specs.Station.{heard_hello, teller};
 ghost use Rattle.station.specs.Hearing.{words_refusal};
 ghost use Rattle.station.specs.Packets.{seens_from, seens_of, seens_refusal};
 ghost use Rattle.station.specs.State.{hello_refusal};
-ghost use Rattle.station.specs.Ticking.{no_word};
 
 use crate::refusals::Refusal;
 use crate::state::Node;
@@ -51,7 +50,7 @@ impl Node {
         tags: [u64; 4],
         out: &mut Outbox,
     ) -> Result<(), Refusal>
-        requires { (HasRoom 6 out.old) × ((words.count ≤ 4) × (((i : ℕ) → i < words.count → (slice_index_or words.items i no_word).id.count < 2 ^ 63))) }
+        requires { (HasRoom 6 out.old) × (Counted words) }
         ensures heard { HeardSo (words_refusal wire words (whole_of self.old)) (words_leave wire words tags (whole_of self.old)) (FrameDid wire (some_words words) tags (whole_of self.old)) result self.old self.new }
         ensures gives { GivesSo (words_give wire words tags (whole_of self.old)) result out.old out.new }
     {

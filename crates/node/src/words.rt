@@ -1,12 +1,12 @@
 // A packet of words is noted and answered.
-ghost use Rattle.std.specs.Prelude.{◌≡◌, ℕ, ◌^◌, ◌<◌, ◌≤◌, slice_index_or};
+ghost use Rattle.std.specs.Prelude.{◌≡◌, ◌^◌, ◌<◌};
 ghost use Rattle.std.specs.List.{flat_map};
 ghost use Rattle.node.specs.Giving.{Added, Full, note_of};
-ghost use Rattle.node.specs.Hearing.{FullSeens, note_for, notes_for, said_above};
+ghost use Rattle.node.specs.Hearing.{Counted, FullSeens, note_for, notes_for, said_above};
 ghost use Rattle.node.specs.State.{whole_of};
 ghost use Rattle.node.specs.Wires.{out_bytes};
 ghost use Rattle.station.specs.Hearing.{answer_on, shown_on};
-ghost use Rattle.station.specs.Ticking.{item_of, no_word};
+ghost use Rattle.station.specs.Ticking.{item_of};
 ghost use Rattle.outbox.specs.Parcels.{HasRoom};
 
 use crate::state::Node;
@@ -54,7 +54,7 @@ impl Node {
         tags: [u64; 4],
         out: &mut Outbox,
     )
-        requires { (HasRoom 4 out.old) × ((words.count ≤ 4) × (((i : ℕ) → i < words.count → (slice_index_or words.items i no_word).id.count < 2 ^ 63))) }
+        requires { (HasRoom 4 out.old) × (Counted words) }
         ensures { Added 4 (flat_map (note_of (whole_of self.now)) (notes_for outcomes words.items tags (whole_of self.now) words.count)) out.old out.new }
     {
         let told = words.held();

@@ -4,17 +4,13 @@ use native.Mathlib.Nat.{pow-le-pow_right}
 use Rattle.std.proofs.lemmas.List.{take_rest}
 use Rattle.std.proofs.lemmas.Bool.{cases_lt}
 use Rattle.octets.specs.declared.Fault.{Fault}
-use Rattle.octets.specs.Reads.{byte, end, number}
+use Rattle.octets.specs.Reads.{byte, number}
 use Rattle.octets.specs.Writes.{Bytes}
 
 -- the next byte is the first one, and what is left is all but that
 pub front : (xs : List ℕ) → 0 < length xs → byte xs ≡ Ok (get_or xs 0 0, take (length xs - 1) (drop 1 xs))
 front [] h = absurd (omega arith)
 front (x ∷ xs) h = ap (λ r. Ok (x, r)) (sym (take_rest (x ∷ xs) 1))
-
-pub front_none : (xs : List ℕ) → length xs ≡ 0 → byte xs ≡ Err Fault.Form
-front_none [] h = refl
-front_none (x ∷ xs) h = absurd (omega arith)
 
 pub number_none : (bytes : List ℕ) → number 0 bytes ≡ Ok (0, bytes)
 unfolding number
@@ -42,14 +38,6 @@ pow_more i x b h k = rw (add-one, pow-suc) (omega arith)
 -- and it still fits 64 bits while there are at most 8
 pub pow_fits : (i : ℕ) → i ≤ 8 → 256 ^ i ≤ 256 ^ 8
 pow_fits i h = pow-le-pow_right {n = 256} (lit< tt) h
-
-pub end_all : (xs : List ℕ) → length xs ≡ 0 → end xs ≡ Ok (tt, xs)
-end_all [] h = refl
-end_all (x ∷ xs) h = absurd (omega arith)
-
-pub end_more : (xs : List ℕ) → (length xs ≡ 0 → ⊥) → end xs ≡ Err Fault.Form
-end_more [] h = absurd (h refl)
-end_more (x ∷ xs) h = refl
 
 -- each is a byte if each place holds one
 pub bytes_at : (xs : List ℕ) → ((k : ℕ) → k < length xs → get_or xs k 0 < 256) → Bytes xs

@@ -1,5 +1,5 @@
 -- Laws of bytes put into a list.
-use Rattle.std.proofs.Common.{◌≡◌, ℕ, zero, suc, ◌+◌, ◌-◌, ◌/◌, ◌%◌, ◌<◌, ◌≤◌, List, [], ◌∷◌, ◌++◌, length, take, drop, set, sym, refl, ap, ◌∙◌, subst, append_assoc, add-zero, add_assoc, add-one, arith, length-append, length-drop, length-take}
+use Rattle.std.proofs.Common.{◌≡◌, ℕ, zero, suc, ◌+◌, ◌-◌, ◌/◌, ◌%◌, ◌<◌, ◌≤◌, List, [], ◌∷◌, ◌++◌, length, take, drop, set, sym, refl, ap, ◌∙◌, subst, append_assoc, add-zero, add_assoc, add-one, arith, length-append, length-take}
 use Rattle.std.proofs.lemmas.List.{take-append-drop, take_at, drop_at, drop-drop, take-set-le, drop-set, set_split}
 use borrow.Rule.Slice.PartMut.{put_mid}
 use Rattle.octets.specs.Writes.{octets, put}
@@ -7,10 +7,6 @@ use Rattle.octets.specs.Writes.{octets, put}
 pub put_none : (at : ℕ) (old : List ℕ) → put at [] old ≡ old
 unfolding put
 put_none at old = rw (add-zero, take-append-drop)
-
-pub length_put : (at : ℕ) (new old : List ℕ) → at + length new ≤ length old → length (put at new old) ≡ length old
-unfolding put
-length_put at new old h = simp (length-append, length-take, length-drop) (omega arith)
 
 -- bytes put after bytes are their join put at once
 pub put_put : (at next : ℕ) (a b old : List ℕ) → next ≡ at + length a → next ≤ length old → put next b (put at a old) ≡ put at (a ++ b) old

@@ -98,7 +98,7 @@ impl<'a> Reader<'a> {
     }
 }
 
-// Kept: `out` and `at` stay two parameters here and above. A struct of them holds a `&mut`, and each function that takes it would have to ensure as well that it lends the same bytes.
+// Kept: the three functions below take `out` and `at` apart. A struct of both would hold a `&mut [u8]`, and each of them would have to promise as well that it still lends the same bytes.
 
 // Writes `x` as `width` bytes from the place `at` on, high byte first, and gives the place after them.
 pub fn put_number(out: &mut [u8], at: usize, width: usize, x: u64) -> usize

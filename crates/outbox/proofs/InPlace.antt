@@ -5,7 +5,6 @@ use Rattle.std.specs.List.{flat_map}
 use Rattle.std.proofs.lemmas.List.{take_at, drop_at, take-append-le, take-take}
 use Rattle.octets.specs.Writes.{Wrote, put}
 use Rattle.octets.proofs.Puts.{length_octets}
-use Rattle.messages.specs.declared.values.Hello.{Hello}
 use Rattle.messages.specs.declared.values.Word.{Word}
 use Rattle.messages.specs.Packets.{Words}
 use Rattle.messages.specs.Packets.{Seens}
@@ -15,7 +14,7 @@ use Rattle.wordframes.proofs.Lengths.{length_seens}
 use Rattle.packets.specs.declared.values.Trouble.{Trouble}
 use Rattle.packets.specs.Errors.{error_header, error_of, error_start, quoted}
 use Rattle.packets.proofs.Summing.{length_both}
-use Rattle.frames.specs.Writing.{bytes_of_entry, bytes_of_hello, bytes_of_line}
+use Rattle.frames.specs.Writing.{bytes_of_entry, bytes_of_line}
 use Rattle.frames.specs.declared.values.Entry.{Entry}
 use Rattle.frames.specs.declared.values.Entry.TheVariants.{Began, Said, Taken, Refused}
 use Rattle.frames.specs.declared.values.Line.{Line}
@@ -39,14 +38,6 @@ in_place old out bytes u at k h l b w same =
           ∙ (ap (λ z. take k z) (append_assoc bytes (drop (0 + length bytes) (mid_of at (65536 - at) old)) rest) ∙ take_at bytes (drop (0 + length bytes) (mid_of at (65536 - at) old) ++ rest) k (sym w.0)));
       front = take-append-le u (take at old) (out ++ rest) (omega arith) ∙ take-take u at old b;
     }
-
--- none of these is longer than 850 bytes
-pub hello_long : (h : Hello) → length (bytes_of_hello h) ≡ 18
-hello_long h = simp length-append (omega (arith, length_octets 8 h.drawn, length_octets 8 h.heard))
-
--- nor what is taken of the front of an error
-pub front_small : (k : ℕ) (xs : List ℕ) → length xs ≡ 56 → length (4 ∷ take k xs) ≤ 850
-front_small k xs l = simp length-take (omega arith)
 
 pub word_small : (w : Word) → length (bytes_of_word w) ≤ 210
 word_small w = omega (arith, length_word w, roads_few w.costs 64)

@@ -1,4 +1,3 @@
-pub mod Adding
 pub mod Closing
 pub mod InPlace
 pub mod Sealing

@@ -22,7 +22,7 @@ fn count(rt: &HostRuntime) -> io::Result<u64> {
 fn main(rt: HostRuntime) -> io::Result<()> {
     let count = count(&rt)?;
     let mut out = Outbox::new();
-    let Some(setup) = Setup::new(&mut out) else {
+    let Ok(setup) = Setup::new(&mut out) else {
         return println!(rt; "not set up");
     };
     let mut node = setup.node;

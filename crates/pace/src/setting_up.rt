@@ -10,6 +10,10 @@ pub(crate) struct Setup {
     pub(crate) frame: [u8; 69],
 }
 
+// A frame does not fit into its buffer, or the box refuses its settings.
+#[derive(Clone, Copy, Debug, PartialEq, Eq)]
+pub(crate) struct NotSetUp;
+
 // The number that box 1 drew.
 const DRAWN: u64 = 11;
 
@@ -28,19 +32,18 @@ fn word_of(about: u8) -> Word {
 }
 
 // A frame comes on a wire, with its sum behind it.
-fn hear(node: &mut Node, wire: u8, frame: Frame, out: &mut Outbox) -> Option<()> {
+fn hear(node: &mut Node, wire: u8, frame: Frame, out: &mut Outbox) -> Result<(), NotSetUp> {
     let mut bytes = [0u8; 256];
-    let long = frames::write_frame(frame, &mut bytes)?;
-    if long > 252 {
-        return None;
-    }
+    let long = frames::write_frame(frame, &mut bytes)
+        .filter(|long| *long <= 252)
+        .ok_or(NotSetUp)?;
     let _ = checksum::crc::write_sum(&mut bytes[..long + 4]);
     let _ = node.wire(wire, &mut bytes[..long + 4], [0; 4], out);
-    Some(())
+    Ok(())
 }
 
 // A neighbour's hello and its word come.
-fn meet(node: &mut Node, wire: u8, from: u8, out: &mut Outbox) -> Option<()> {
+fn meet(node: &mut Node, wire: u8, from: u8, out: &mut Outbox) -> Result<(), NotSetUp> {
     let hello = Hello {
         from,
         drawn: 20,
@@ -68,19 +71,19 @@ fn packet() -> [u8; 69] {
 }
 
 impl Setup {
-    pub(crate) fn new(out: &mut Outbox) -> Option<Setup> {
+    pub(crate) fn new(out: &mut Outbox) -> Result<Setup, NotSetUp> {
         let settings = Settings {
             boxes: 3,
             me: 1,
             costs: [1, 1, 0, 0, 0, 0, 0, 0],
         };
         let mut bytes = [0u8; 19];
-        let _ = frames::write_settings(settings, &mut bytes)?;
-        let mut node = Node::begin(&bytes, DRAWN, out).ok()?;
+        let _ = frames::write_settings(settings, &mut bytes).ok_or(NotSetUp)?;
+        let mut node = Node::begin(&bytes, DRAWN, out).or(Err(NotSetUp))?;
         meet(&mut node, 0, 0, out)?;
         meet(&mut node, 1, 2, out)?;
         node.tick(30, out);
-        Some(Setup {
+        Ok(Setup {
             node,
             frame: packet(),
         })

@@ -1,6 +1,6 @@
 -- ICMP errors: which packets are such, and the one that a refused packet is answered with.
 -- Assumes nothing.
-use Rattle.std.specs.Prelude.{ℕ, ◌+◌, Bool, ◌&&◌, ◌||◌, List, [], ◌∷◌, ◌++◌, length, take, ◌==◌, nat_lt, slice_index}
+use Rattle.std.specs.Prelude.{ℕ, ◌+◌, Bool, cond, ◌&&◌, ◌||◌, List, [], ◌∷◌, ◌++◌, length, take, Some, None, Option, ◌==◌, nat_lt, slice_index}
 use Rattle.packets.specs.declared.values.Trouble.{Trouble}
 use Rattle.packets.specs.declared.values.Trouble.TheVariants.{TimeExceeded, Unreachable}
 use Rattle.packets.specs.Packet.{address_at}
@@ -18,6 +18,10 @@ is_error p = nat_lt 20 (length p) && (slice_index p 9 == 1 && is_error_type (sli
 abbrev pub trouble_type : Trouble → ℕ
 trouble_type TimeExceeded = 11
 trouble_type Unreachable = 3
+
+-- which error an ICMP type stands for
+abbrev pub trouble_of : ℕ → Option Trouble
+trouble_of kind = cond (kind == 11) (Some TimeExceeded) (cond (kind == 3) (Some Unreachable) None)
 
 -- the packet's header as it came, and up to 8 bytes after it
 abbrev pub quoted : List ℕ → List ℕ

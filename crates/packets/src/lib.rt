@@ -15,6 +15,6 @@ mod values;
 pub use error_quota::Quota;
 pub use packet_echo::echo_back;
 pub use packet_errand::errand;
-pub use packet_error::{is_error, write_error};
+pub use packet_error::{byte_at, is_error, write_error};
 pub use packet_hop::hand_on;
-pub use values::{Errand, Refusal, Trouble};
+pub use values::{Errand, NoTrouble, Refusal, Trouble};

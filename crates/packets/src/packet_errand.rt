@@ -51,7 +51,7 @@ fn is_echo(me: u8, packet: &[u8]) -> bool
 }
 
 // What box `me` of `n` does with the packet, or why it is refused.
-// Kept: no other function takes both numbers, so that a struct of them would be made at each call only to be taken apart here.
+// Kept: each caller has the two numbers apart, from `Links` or over the C interface. `hello`, `router`, `station` and `ways` take such a pair too, but share no crate with this one where a struct of it could stand.
 pub fn errand(n: u8, me: u8, packet: &[u8]) -> Result<Errand, Refusal>
     ensures { result ≡ errand_of n me packet.now }
 {

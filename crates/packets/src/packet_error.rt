@@ -22,7 +22,7 @@ pub fn is_error(packet: &[u8]) -> bool
 }
 
 // The byte at a place, and 0 past the end.
-fn byte_at(bytes: &[u8], i: usize) -> u8
+pub fn byte_at(bytes: &[u8], i: usize) -> u8
     ensures { result ≡ slice_index bytes.now i }
 {
     bytes.get(i).copied().unwrap_or(0)

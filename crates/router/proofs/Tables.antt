@@ -1,23 +1,11 @@
 -- Lists of numbers, and lists of such lists, as functions of a place.
-use Rattle.std.proofs.Common.{◌≡◌, ℕ, zero, suc, ◌<◌, ◌≤◌, Bool, true, false, cond, eqb, List, [], length, get_or, set, replicate, refl, ap, ◌∙◌, get_or-set_other, get_or-set_same, eqb-true}
+use Rattle.std.proofs.Common.{◌≡◌, ℕ, ◌<◌, ◌≤◌, Bool, true, false, cond, eqb, List, length, get_or, set, refl, ap, ◌∙◌, get_or-set_other, get_or-set_same, eqb-true}
 use lib.ListN.{get_or-eq_default}
 use borrow.Author.Tests.{eqb-false}
 use Rattle.bits.specs.Bits.{bit}
 use Rattle.bits.proofs.OfBits.{bit_none}
 use Rattle.messages.specs.Values.{at}
 use Rattle.model.specs.Flood.{row}
-
--- n times 0 is 0 everywhere, past its end too
-pub at_zeros : (n i : ℕ) → at (replicate n 0) i ≡ 0
-at_zeros zero i = refl
-at_zeros (suc n) zero = refl
-at_zeros (suc n) (suc i) = at_zeros n i
-
--- and so is a table of such
-pub at_zero_rows : (m n i e : ℕ) → at (get_or (replicate m (replicate n 0)) i []) e ≡ 0
-at_zero_rows zero n i e = refl
-at_zero_rows (suc m) n zero e = at_zeros n e
-at_zero_rows (suc m) n (suc i) e = at_zero_rows m n i e
 
 -- past its end a list is 0
 pub at_past : (xs : List ℕ) (i k : ℕ) → length xs ≡ k → k ≤ i → at xs i ≡ 0

@@ -1,14 +1,14 @@
 -- What the state and the answers of a box stand for in the model. Assumes nothing.
-use Rattle.std.specs.Prelude.{ℕ, zero, suc, ◌+◌, ◌^◌, Bool, cond, not, ◌&&◌, ◌||◌, [], Some, None, Option, ◌==◌, nat_le, nat_lt, slice_index_or}
+use Rattle.std.specs.Prelude.{ℕ, zero, suc, ◌+◌, ◌^◌, Bool, cond, not, ◌&&◌, ◌||◌, Some, None, Option, ◌==◌, nat_le, nat_lt}
 use Rattle.bits.specs.Bits.{bit}
+pub use Rattle.database.specs.State.{hop_of}
+use Rattle.database.specs.State.{words_in}
 pub use Rattle.messages.specs.Refusals.{RefusedBy}
 use Rattle.messages.specs.Values.{at, entry_of, told_by}
 use Rattle.messages.specs.declared.values.Word.{Word}
 use Rattle.messages.specs.declared.values.WordId.{WordId}
 use Rattle.model.specs.Box.{Box, is_open, is_new_to}
 use Rattle.model.specs.Code.{same_word}
-use Rattle.model.specs.Map.{Hop as Next}
-use Rattle.model.specs.Map.{Nowhere as NoNext, To as Onto}
 use Rattle.router.specs.declared.answers.Outcome.{Outcome}
 use Rattle.router.specs.declared.answers.Outcome.TheVariants.{Taken, Said, Same, Older}
 use Rattle.router.specs.declared.answers.Refusal.{Refusal}
@@ -25,18 +25,13 @@ refusal_number OutOfRange = 2
 refusal_number NoRoad = 3
 refusal_number CountSpent = 11
 
--- the next box as the model has it
-abbrev pub hop_of : Option ℕ → Next
-hop_of None = NoNext
-hop_of (Some e) = Onto e
-
 -- the box of the model that a state stands for
 abbrev pub box_of : Router → Box
 box_of s = record {
   n = s.n;
   me = s.me;
   cost = at s.links;
-  word = λ i. record { number = at s.counts i; tag = at s.tags i; road = at (slice_index_or s.costs i []) };
+  word = words_in s.words;
   shown = λ e i. bit (at s.shown e) i;
 }
 

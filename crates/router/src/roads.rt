@@ -8,6 +8,7 @@ ghost use Rattle.router.specs.State.{RefusedBy, begin_refusal, box_of, open_belo
 
 use crate::answers::Refusal;
 use crate::state::Router;
+use database::Database;
 
 impl Router {
     // What the road to each box costs, 0 if it isn't open.
@@ -46,9 +47,7 @@ impl Router {
             n,
             me,
             links: [0; 64],
-            counts: [0; 64],
-            tags: [0; 64],
-            costs: [[0; 64]; 64],
+            words: Database::new(),
             shown: [0; 64],
         }
     }

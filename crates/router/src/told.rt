@@ -42,6 +42,7 @@ impl Router {
         Ok(())
     }
 
+    // Kept: numbers below 64, here and in `outcome`, `taken` and `has`, all called where `allows_id` has let them through. A type for such a number would be made there and taken apart here.
     // Marks that a neighbour has the word of these numbers, if the road to it is open and the box has just that word.
     fn marked(mut self, from: u8, id: WordId) -> Router
         requires { (from < 64) × (id.about < 64) }

@@ -23,11 +23,7 @@ impl Router {
         requires { word.id.about < 64 }
         ensures { box_of result ≡ has word.id.about (entry_of word) (box_of self) }
     {
-        let about = usize::from(word.id.about);
-        self.counts[about] = word.id.count;
-        self.tags[about] = word.id.tag;
-        let costs = word.costs;
-        self.costs[about] = costs;
+        self.words.put(word);
         let shown = cleared(self.shown, word.id.about);
         self.shown = shown;
         self
@@ -47,14 +43,20 @@ impl Router {
         self.has(Word { id, costs })
     }
 
+    // The count of its own word, 0 for none.
+    fn count(self) -> u64
+        ensures { result ≡ ((box_of self).word self.me).number }
+    {
+        self.words.id_of(self.me).count
+    }
+
     // Whether what it has said of its road to x is so; with no road open it need have said nothing.
     fn said_so(self, x: u8) -> bool
         requires { x < 64 }
         ensures { result ≡ own_so_at (box_of self) x }
     {
-        let me = self.me as usize;
-        let cost = self.links[x as usize];
-        self.costs[me][x as usize] == cost && (cost == 0 || self.counts[me] > 0)
+        let cost = self.cost(x);
+        self.words.cost(self.me, x) == cost && (cost == 0 || self.count() > 0)
     }
 
     // Whether what it has said of itself isn't so any more.
@@ -68,7 +70,7 @@ impl Router {
     fn has_room(self) -> bool
         ensures { result ≡ has_room (box_of self) }
     {
-        self.counts[self.me as usize] < (1 << 63) - 1
+        self.count() < (1 << 63) - 1
     }
 
     // It says a new word of itself.
@@ -78,7 +80,7 @@ impl Router {
         ensures so { IfOk result (λ s. (es : List Ev) → Stands (box_of self) es → is_in tag (world self.n es).drawn ≡ false → Stands (box_of s) (Says self.me tag ∷ es)) }
     {
         if self.has_room() {
-            Ok(self.says_above(self.counts[self.me as usize], tag))
+            Ok(self.says_above(self.count(), tag))
         } else {
             Err(Refusal::CountSpent)
         }
@@ -88,12 +90,7 @@ impl Router {
     pub fn id_of(self, about: u8) -> WordId
         ensures { result ≡ record { about = about; count = ((box_of self).word about).number; tag = ((box_of self).word about).tag } }
     {
-        let place = usize::from(about);
-        WordId {
-            about,
-            count: self.counts.get(place).copied().unwrap_or(0),
-            tag: self.tags.get(place).copied().unwrap_or(0),
-        }
+        self.words.id_of(about)
     }
 
     // The word that it has of a box.
@@ -105,10 +102,7 @@ impl Router {
         if about >= self.n {
             return Err(Refusal::OutOfRange);
         }
-        Ok(Word {
-            id: self.id_of(about),
-            costs: self.costs[about as usize],
-        })
+        Ok(self.words.word(about))
     }
 
     // The boxes of which it has a word, as the bits of a number.
@@ -116,7 +110,7 @@ impl Router {
         ensures { (i : ℕ) → bit result i ≡ (nat_lt i self.n && nat_lt 0 ((box_of self).word i).number) }
     {
         (0..self.n)
-            .filter(|i| self.counts[usize::from(*i)] > 0)
+            .filter(|i| self.id_of(*i).count > 0)
             .fold(0, |had, i| bits::with_bit(had, i))
     }
 }

@@ -1,61 +1,50 @@
--- Laws of the parts of a line: where the first blank stands, one part more, and the number that digits write.
-use Rattle.std.proofs.Common.{◌≡◌, ℕ, zero, suc, ◌+◌, ◌-◌, ◌*◌, ◌<◌, ◌≤◌, Bool, true, false, cond, eqb, leb, ltb, List, [], ◌∷◌, length, get_or, take, drop, Some, None, Option, sym, refl, ap, ◌∙◌, inl, inr, add-one, arith, drop-cons}
-use lib.Seq.{take-nil}
-use Rattle.std.specs.List.{position, position_or_len}
+-- Laws of the parts of a line, which are those between blanks, and of the number that digits write.
+use Rattle.std.proofs.Common.{◌≡◌, ℕ, zero, suc, ◌+◌, ◌-◌, ◌*◌, ◌<◌, ◌≤◌, Bool, true, false, cond, eqb, leb, List, [], ◌∷◌, length, get_or, drop, Some, None, Option, unwrap_or, sym, refl, ap, ◌∙◌, inl, inr, add-one, arith, drop-cons}
+use Rattle.std.specs.List.{slice_split, onto_first}
+use Rattle.std.specs.Option.{option_map}
+use Rattle.std.proofs.lemmas.List.Splits.{length-slice_split}
 use Rattle.std.specs.Prelude.{count_by}
-use Rattle.std.proofs.lemmas.Bool.{le-leb, lt-leb, cond-true, cond-false, cond_both, cases_Bool, ltb-false}
-use Rattle.std.proofs.lemmas.List.{drop_all, take_all}
+use Rattle.std.proofs.lemmas.Bool.{le-leb, lt-leb, cond-true, cond-false, cond_both, cases_Bool}
+use Rattle.std.proofs.lemmas.List.{drop_all}
 use Rattle.std.proofs.lemmas.List.Sums.{sum_by-cons}
 use Rattle.script.specs.Line.{before, behind, part_of, parts_of, digits_of, is_digit, at_most, number_of}
 
 abbrev pub is_blank : ℕ → Bool
 is_blank b = eqb b 32
 
--- the first blank: what is before it and what is behind it
-before_len : (s : List ℕ) → before s ≡ take (position_or_len is_blank s) s
-unfolding before
-before_len [] = sym (take-nil (position_or_len is_blank []))
-before_len (b ∷ s) = elim (cases_Bool (eqb b 32)) [
+-- nothing is behind the last part
+part_empty : (k : ℕ) → part_of k [] ≡ []
+unfolding part_of before behind
+part_empty zero = refl
+part_empty (suc k) = part_empty k
+
+-- a byte that is no blank goes onto the first part
+onto_none : (b : ℕ) (parts : List (List ℕ)) → 0 < length parts → get_or (onto_first b parts) 0 [] ≡ b ∷ get_or parts 0 []
+onto_none b [] l = absurd (omega arith)
+onto_none b (part ∷ parts) l = refl
+
+onto_more : (b k : ℕ) (parts : List (List ℕ)) → get_or (onto_first b parts) (suc k) [] ≡ get_or parts (suc k) []
+onto_more b k [] = refl
+onto_more b k (part ∷ parts) = refl
+
+-- the parts are those between blanks
+pub part_split : (k : ℕ) (s : List ℕ) → part_of k s ≡ get_or (slice_split is_blank s) k []
+unfolding part_of before behind
+part_split zero [] = refl
+part_split (suc k) [] = part_empty k
+part_split zero (b ∷ s) = elim (cases_Bool (eqb b 32)) [
   | inl e ↦ rw e refl
-  | inr e ↦ let l : 1 + position_or_len is_blank s ≡ suc (position_or_len is_blank s) = omega arith in rw (e, l) (ap (λ t. b ∷ t) (before_len s))
+  | inr e ↦ rw e (ap (λ t. b ∷ t) (part_split zero s) ∙ sym (onto_none b (slice_split is_blank s) (omega (arith, length-slice_split is_blank s))))
+]
+part_split (suc k) (b ∷ s) = elim (cases_Bool (eqb b 32)) [
+  | inl e ↦ rw e (part_split k s)
+  | inr e ↦ rw e (part_split (suc k) s ∙ sym (onto_more b k (slice_split is_blank s)))
 ]
 
-behind_len : (s : List ℕ) → behind s ≡ drop (suc (position_or_len is_blank s)) s
-unfolding behind
-behind_len [] = refl
-behind_len (b ∷ s) = elim (cases_Bool (eqb b 32)) [
-  | inl e ↦ rw e refl
-  | inr e ↦ let l : 1 + position_or_len is_blank s ≡ suc (position_or_len is_blank s) = omega arith in rw (e, l) (behind_len s)
-]
-
--- what is found stands at that place, and where nothing is found the list ends first
-found_at : (n l i : ℕ) → cond (ltb n l) (Some n) None ≡ Some i → n ≡ i
-found_at n l i h = elim (cases_Bool (ltb n l)) [ inl e ↦ let f : ◌≡◌ {A = Option ℕ} (Some n) (Some i) = rw e at h in cc | inr e ↦ let f : ◌≡◌ {A = Option ℕ} None (Some i) = rw e at h in cc ]
-
-none_at : (n l : ℕ) → cond (ltb n l) (Some n) None ≡ None → l ≤ n
-none_at n l h = elim (cases_Bool (ltb n l)) [ inl e ↦ let f : ◌≡◌ {A = Option ℕ} (Some n) None = rw e at h in cc | inr e ↦ ltb-false n l e ]
-
-pub before_at : (s : List ℕ) (i : ℕ) → position is_blank s ≡ Some i → before s ≡ take i s
-before_at s i h = before_len s ∙ ap (λ k. take k s) (found_at (position_or_len is_blank s) (length s) i h)
-
-pub behind_at : (s : List ℕ) (i : ℕ) → position is_blank s ≡ Some i → behind s ≡ drop (suc i) s
-behind_at s i h = behind_len s ∙ ap (λ k. drop (suc k) s) (found_at (position_or_len is_blank s) (length s) i h)
-
-pub before_none : (s : List ℕ) → position is_blank s ≡ None → before s ≡ s
-before_none s h = before_len s ∙ take_all (position_or_len is_blank s) s (none_at (position_or_len is_blank s) (length s) h)
-
-pub behind_none : (s : List ℕ) → position is_blank s ≡ None → behind s ≡ []
-behind_none s h = let l = none_at (position_or_len is_blank s) (length s) h in behind_len s ∙ drop_all (suc (position_or_len is_blank s)) s (omega arith)
-
--- one blank less to skip
-pub part_more : (k : ℕ) (s : List ℕ) → 0 < k → part_of k s ≡ part_of (k - 1) (behind s)
-unfolding part_of
-part_more zero s h = absurd (omega arith)
-part_more (suc k) s h = let e : k ≡ suc k - 1 = omega arith in ap (λ j. part_of j (behind s)) e
-
-pub part_none : (s : List ℕ) → part_of 0 s ≡ before s
-unfolding part_of
-part_none s = refl
+-- what is read of a value or of the one in its place
+pub unwrapped : {A B : Type 0} (f : A → B) (o : Option A) (d : A) → f (unwrap_or o d) ≡ unwrap_or (option_map f o) (f d)
+unwrapped f None d = refl
+unwrapped f (Some x) d = refl
 
 -- one part more than there are blanks
 pub parts_counted : (s : List ℕ) → parts_of s ≡ count_by is_blank s + 1

@@ -1,6 +1,6 @@
 // Reads a line of a script.
-ghost use Rattle.std.specs.Prelude.{◌≡◌, ◌≤◌, ◌==◌, IfOk, position};
-ghost use Rattle.script.specs.Line.{Gives, before, behind, part_of, parts_of, number_of, boxes_in, road_in, fall_in, lose_in, tick_in, send_in, command_in};
+ghost use Rattle.std.specs.Prelude.{◌≡◌, ◌≤◌, IfOk};
+ghost use Rattle.script.specs.Line.{Gives, part_of, parts_of, number_of, boxes_in, road_in, fall_in, lose_in, tick_in, send_in, command_in};
 ghost use Rattle.script.specs.Written.{CanBe};
 
 use super::command::{Command, Fault};
@@ -8,42 +8,13 @@ use super::command::{Command, Fault};
 // One of these, and nothing else, stands between two parts.
 const BLANK: u8 = b' ';
 
-// Where the first blank stands, if there is one.
-fn first_blank(text: &[u8]) -> Option<usize>
-    ensures { result ≡ position (λ b. b == 32) text.now }
-{
-    text.iter().position(|b| *b == BLANK)
-}
-
-// The part of `text` before its first blank.
-fn before_blank(text: &[u8]) -> &[u8]
-    ensures { result.now ≡ before text.now }
-{
-    match first_blank(text) {
-        Some(at) => &text[..at],
-        None => text,
-    }
-}
-
-// The part of `text` behind its first blank.
-fn behind_blank(text: &[u8]) -> &[u8]
-    ensures { result.now ≡ behind text.now }
-{
-    match first_blank(text) {
-        Some(at) => &text[at + 1..],
-        None => &[],
-    }
-}
-
 // The part behind `skip` blanks, up to the next one.
 fn part(text: &[u8], skip: u8) -> &[u8]
     ensures { result.now ≡ part_of skip text.now }
 {
-    let mut rest = text;
-    for turn in 0..skip {
-        rest = behind_blank(rest);
-    }
-    before_blank(rest)
+    text.split(|b| *b == BLANK)
+        .nth(usize::from(skip))
+        .unwrap_or(&[])
 }
 
 // How many parts there are between blanks.

@@ -1,5 +1,5 @@
 -- A packet of words carries a list of them.
-use Rattle.std.proofs.Common.{◌≡◌, ℕ, zero, suc, ◌<◌, ◌≤◌, Bool, true, false, cond, eqb, List, [], ◌∷◌, ◌++◌, length, get_or, take, replicate, Some, Option, refl, ap, ◌∙◌, ap₂, suc-le-suc, zero-le, le_of_suc-le-suc, not-suc-le-zero, arith}
+use Rattle.std.proofs.Common.{◌≡◌, ℕ, zero, suc, ◌<◌, ◌≤◌, Bool, true, cond, eqb, List, [], ◌∷◌, ◌++◌, length, get_or, take, replicate, Some, Option, refl, ap, ◌∙◌, ap₂, suc-le-suc, zero-le, le_of_suc-le-suc, not-suc-le-zero, arith}
 use Rattle.std.specs.Array.{AllOfLen}
 use Rattle.messages.specs.declared.values.Word.{Word}
 use Rattle.messages.specs.declared.values.WordId.{WordId}
@@ -71,10 +71,3 @@ named_at n xs ps zs j e l h = taken_at 0 n xs j h ∙ ap (λ (qs : List ℕ). ge
 pub told_to_lem : (w e : ℕ) (s : Station) → is_telling s.links ≡ true → who_on (s.links.wire w) ≡ Some e → eqb (wire_to e s.links) w ≡ true → told_on w s ≡ items_of (tells e s.box) s.box
 told_to_lem w e s t o l =
     ap (λ (b : Bool). cond b (told_to (who_on (s.links.wire w)) w s) []) t ∙ ap (λ (x : Option ℕ). told_to x w s) o ∙ ap (λ (b : Bool). cond b (items_of (tells e s.box) s.box) []) l
-
-pub told_other : (w e : ℕ) (s : Station) → who_on (s.links.wire w) ≡ Some e → eqb (wire_to e s.links) w ≡ false → told_on w s ≡ []
-told_other w e s o l = ap (λ (xs : List Item). cond (is_telling s.links) xs []) (ap (λ (x : Option ℕ). told_to x w s) o ∙ ap (λ (b : Bool). cond b (items_of (tells e s.box) s.box) []) l) ∙ both (is_telling s.links)
-  where
-    both : (b : Bool) → cond {A = List Item} b [] [] ≡ []
-    both true = refl
-    both false = refl

@@ -1,10 +1,7 @@
 -- What a box keeps as a fact, it has: both facts are about numbers and tests.
-use Rattle.std.proofs.Common.{◌≡◌, ℕ, suc, ◌<◌, Bool, true, false, ltb, List, get_or, refl, ap, arith, ltb-true, lt-ltb}
+use Rattle.std.proofs.Common.{◌≡◌, ℕ, ◌<◌, Bool, true, false, ltb, refl, ap, arith, ltb-true, lt-ltb}
 use mathlib.Core.Logic.{∥∥₁_elim}
 use native.Mathlib.Nat.{ℕ_set}
-use Rattle.model.specs.Map.{Map, Hop, Nowhere, To, hop}
-use Rattle.ways.specs.Numbers.{hop_of}
-use Rattle.ways.specs.Table.{Found}
 use Rattle.linkmodel.specs.Links.{Wire, Silent, Heard, Open}
 use Rattle.linkmodel.specs.Relinked.{Sound}
 use Rattle.linkmodel.specs.Station.{Station}
@@ -36,18 +33,6 @@ is_silent Silent e = refl
 is_silent (Heard f d t) e = absurd (omega arith)
 is_silent (Open f d t) e = absurd (omega arith)
 
--- a next box as a number
-place_of : Hop → ℕ
-place_of Nowhere = 0
-place_of (To e) = suc e
-
-same_place : (x y : Hop) → place_of x ≡ place_of y → x ≡ y
-unfolding place_of
-same_place Nowhere Nowhere e = refl
-same_place Nowhere (To b) e = absurd (omega arith)
-same_place (To a) Nowhere e = absurd (omega arith)
-same_place (To a) (To b) e = let q : a ≡ b = omega arith in ap To q
-
 less_had : {A : Type 0} (m n : ℕ) → ∥ A ∥₁ → (A → m < n) → m < n
 less_had m n h f = ltb-true m n (of_bit (ltb m n) (∥∥₁_elim h (ℕ_set (bit_of (ltb m n)) 1) (λ a. bit_of_lem (ltb m n) (lt-ltb m n (f a)))))
 
@@ -74,6 +59,3 @@ joined_had s h = record {
   number = ∥∥₁_elim h (ℕ_set s.links.me s.box.me) (λ j. j.number);
   roads = λ e. ∥∥₁_elim h (ℕ_set (s.box.cost e) _) (λ j. j.roads e);
 }
-
-pub next_had : (z : Map) (me : ℕ) (far next : List ℕ) → ∥ Found z me far next ∥₁ → (d : ℕ) → d < z.n → hop_of (get_or next d 0) ≡ hop z d me
-next_had z me far next h d l = same_place (hop_of (get_or next d 0)) (hop z d me) (∥∥₁_elim h (ℕ_set (place_of (hop_of (get_or next d 0))) (place_of (hop z d me))) (λ f. ap place_of (f.nexts d l)))

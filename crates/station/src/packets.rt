@@ -37,7 +37,7 @@ fn teller(links: Links, wire: u8) -> Option<u8>
 
 impl Station {
     // Who sent a packet of these, unless it is refused.
-    // Kept: the count and the numbers as two parameters, since a packet of words has its numbers within its words: one parameter would be a packet of numbers put together for this call alone, or would take a closure for the number of an item beside it.
+    // Kept: the count and the numbers as two parameters, since a packet of words has its numbers within its words: one parameter would be a packet of numbers, whose drawn number nothing reads here, or would take a closure for the number of an item beside it.
     #[tactic(auto, using(crate::proofs::Scans::any_in_take))]
     pub(crate) fn admits(self, wire: u8, count: u8, ids: [WordId; 4]) -> Result<u8, Refusal>
         ensures refused { RefusedBy (packet_refusal (station_of self).box.n (teller wire (station_of self).links) count ids) result }

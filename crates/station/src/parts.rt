@@ -12,21 +12,20 @@ use hello::Links;
 use router::Router;
 
 impl Station {
-    // These wires and words, with the tables that belong to the words.
+    // These wires and words, with the table that belongs to the words.
     pub(crate) fn settled(links: Links, router: Router) -> Station
         requires { Joined (parts_of links router) }
         ensures { station_of result ≡ parts_of links router }
     {
-        let (far, next) = router.tables();
+        let table = router.table();
         Station {
             links,
             router,
-            far,
-            next,
+            table,
         }
     }
 
-    // These wires and words, where the words are those that it has: their tables stay.
+    // These wires and words, where the words are those that it has: their table stays.
     pub(crate) fn rejoined(mut self, links: Links, router: Router) -> Station
         requires { (Joined (parts_of links router)) × ((map_in (box_of router) ≡ map_in (box_of self.router)) × ((box_of router).me ≡ (box_of self.router).me)) }
         ensures { station_of result ≡ parts_of links router }
@@ -55,10 +54,7 @@ impl Station {
         ensures inside { to < (station_of self.now).box.n → hop_of result ≡ hop_in to (station_of self.now).box }
         ensures beyond { (station_of self.now).box.n ≤ to → result ≡ None }
     {
-        if to >= self.router.boxes() {
-            return None;
-        }
-        router::hop_at(self.next[to as usize])
+        self.table.next(to)
     }
 
     // The lowest wire over which the road to a box is open.

@@ -5,16 +5,16 @@ ghost use Rattle.router.specs.State.{box_of};
 ghost use Rattle.station.specs.Parts.{parts_of};
 ghost use Rattle.ways.specs.Table.{Found};
 
+use database::RoutingTable;
 use hello::Links;
 use router::Router;
 
-// `links`: the wires. `router`: the roads that they hold open, and the words. `far`, `next`: how far each box is by these words, and the next box towards it.
+// `links`: the wires. `router`: the roads that they hold open, and the words. `table`: how far each box is by these words, and the next box towards it.
 #[derive(Clone, Copy, Debug, PartialEq, Eq)]
 pub struct Station {
     pub(crate) links: Links,
     pub(crate) router: Router,
-    pub(crate) far: [u32; 64],
-    pub(crate) next: [u8; 64],
+    pub(crate) table: RoutingTable,
     ghost joined: { ∥ Joined (parts_of links router) ∥₁ },
-    ghost ways: { ∥ Found (map_in (box_of router)) (box_of router).me far next ∥₁ },
+    ghost ways: { ∥ Found (map_in (box_of router)) (box_of router).me table.far table.next ∥₁ },
 }

@@ -48,7 +48,7 @@ impl Station {
         ensures { Carries result (station_of self).links.drawn (items_of (tells to (station_of self).box) (station_of self).box) }
     {
         let picked = telling::tells(self.router, to);
-        let abouts = &picked.items[..picked.count as usize];
+        let abouts = picked.places();
         let mut items = [Word::default(); 4];
         for (k, about) in abouts.iter().enumerate() {
             items[k] = word_of(self.router, *about);

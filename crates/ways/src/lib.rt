@@ -19,8 +19,10 @@ pub const NEVER: u32 = 4_294_967_295;
 /// Stands for "no box" among next boxes.
 pub const NONE: u8 = 255;
 
+// Kept: three slices side by side, as the C interface has them; only the costs say anything of ways.
+
 /// What a box has of all: for each of 64 boxes the count and the tag of its last word, and what its roads cost by that word, 0 for no road.
-#[derive(Clone, Copy)]
+#[derive(Clone, Copy, Debug, PartialEq, Eq)]
 pub struct Words<'a> {
     pub counts: &'a [u64],
     pub tags: &'a [u64],
@@ -69,6 +71,7 @@ fn rank(far: u32) -> u32
 }
 
 // The nearest open box, if one is open.
+// Kept: `n ≤ 64`, here and in `relax`, `begin` and `walk`, of a number that `least_ways` has tested once. A type for it would be made there and taken apart in each of the four.
 // Kept: numbers that index `edge`. Tried was `edge[..n].iter().enumerate()` before `min_by_key`, and the proof that no other open box is nearer didn't close.
 fn nearest(n: usize, edge: &[u32; 64]) -> Option<usize>
     requires { n ≤ 64 }

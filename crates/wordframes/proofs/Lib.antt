@@ -6,3 +6,4 @@ pub mod RoadsAgain
 pub mod RoadsOnly
 pub mod Batches
 pub mod Items
+pub mod Sums

@@ -88,11 +88,7 @@ fn size_of_all<T: Item>(items: &[T]) -> usize
     ensures known { result ≡ length (flat_map T.bytes items.now) }
     ensures small { result ≤ 840 }
 {
-    let mut all = 0;
-    for item in items {
-        all += item.size();
-    }
-    all
+    items.iter().map(|item| item.size()).sum()
 }
 
 // Writes them from the place `at` on, and gives the place after them.

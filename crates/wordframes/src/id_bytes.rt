@@ -19,7 +19,7 @@ pub fn how_many(reader: &mut Reader) -> Result<u8, Fault>
     }
 }
 
-// Kept: `n` goes beside the reader as a number. A type for at most 64 boxes would ask more of callers of `read_seens`, which takes any, and half of what is read asks no number.
+// The numbers of a word of a box below `n`.
 pub fn id(reader: &mut Reader, n: u8) -> Result<WordId, Fault>
     ensures { id_in n reader.old.left.now ≡ with_left result reader.new.left.now }
 {

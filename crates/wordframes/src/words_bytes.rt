@@ -42,6 +42,7 @@ impl Item for Word {
     }
 }
 
+// Kept: `n` is a number beside the reader, and `n ≤ 64` stands here, at `read_words`, at `roads`, whose costs have 64 places, and at the readers of frames and journal lines that call these. A type for at most 64 boxes would ask more of callers of `read_seens`, which takes any `n`.
 pub fn read_word(reader: &mut Reader, n: u8) -> Result<Word, Fault>
     requires { n ≤ 64 }
     ensures { word_in n reader.old.left.now ≡ with_left result reader.new.left.now }

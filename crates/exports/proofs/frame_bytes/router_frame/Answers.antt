@@ -1,4 +1,4 @@
-use Rattle.std.proofs.Common.{◌≡◌, true, leb, sym, ap, subst, arith}
+use Rattle.std.proofs.Common.{◌≡◌, true, sym, ap, subst, arith}
 use Rattle.exports.specs.Verdicts.{again, verdict_of}
 use Rattle.exports.proofs.Agains.{wrote_again}
 use Rattle.exports.proofs.frame_bytes.router_frame.Goals as goal

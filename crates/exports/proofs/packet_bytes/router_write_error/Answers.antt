@@ -1,12 +1,15 @@
 use Rattle.std.proofs.Common.{◌≡◌, Some, sym, ap, ◌∙◌, arith}
-use Rattle.exports.specs.Verdicts.{trouble_of}
+use Rattle.std.specs.Result.{result_ok}
+use Rattle.packets.specs.Errors.{trouble_of}
 use Rattle.exports.proofs.Agains.{wrote_again, wrote_fitting}
 use Rattle.exports.proofs.packet_bytes.router_write_error.Goals as goal
-use Rattle.exports.proofs.packet_bytes.router_write_error.Goals.{in-11, in-3}
 
-pub returns : goal.returns
-returns c =
-    let e : trouble_of c.args.kind ≡ Some c.match-kind.trouble = elim c.match-kind.branch [ in-11 w ↦ ap trouble_of w.in-11.is ∙ ap Some (sym w.trouble-is) | in-3 w ↦ ap trouble_of w.in-3.is ∙ ap Some (sym w.trouble-is) ] in
-    let l = wrote_fitting _ c.args.out.now c.write_error.new.out _ (omega arith) c.write_error.ensures.wrote in
-    let w = wrote_again _ c.args.out.now c.write_error.new.out _ (omega arith) c.write_error.ensures.wrote in
-    rw e (record { long = c.unwrap_or.ensures ∙ l; left = w })
+pub returns-clause-long : goal.returns-clause-long
+returns-clause-long c =
+    let e : trouble_of c.args.kind ≡ Some c.in-Ok.trouble = sym c.try_from.ensures ∙ ap result_ok c.in-Ok.is in
+    rw e (c.unwrap_or.ensures ∙ wrote_fitting _ c.args.out.now c.write_error.new.out _ (omega arith) c.write_error.ensures.wrote)
+
+pub returns-clause-left : goal.returns-clause-left
+returns-clause-left c =
+    let e : trouble_of c.args.kind ≡ Some c.in-Ok.trouble = sym c.try_from.ensures ∙ ap result_ok c.in-Ok.is in
+    rw e (wrote_again _ c.args.out.now c.write_error.new.out _ (omega arith) c.write_error.ensures.wrote)

@@ -4,8 +4,8 @@ use Rattle.journal.specs.State.{known_by}
 use Rattle.journal.proofs.Going.{Going}
 use Rattle.journal.proofs.replaying.replay.Given as goal
 
-abbrev pub invariant-lines : goal.invariant-lines
-invariant-lines l = Going l.until l.bytes l.place (known_by l.notes)
+abbrev pub invariant-loop-long : goal.invariant-loop-long
+invariant-loop-long l = Going l.until l.bytes l.place (known_by l.notes)
 
-abbrev pub decreases-lines : goal.decreases-lines
-decreases-lines l = length l.bytes - l.place
+abbrev pub decreases-loop-long : goal.decreases-loop-long
+decreases-loop-long l = length l.bytes - l.place

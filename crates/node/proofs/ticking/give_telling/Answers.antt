@@ -18,12 +18,3 @@ give_packet-requires c =
     let long : length c.args.words.now ≡ 8 = search rules in
     let same = get_or_default c.args.words.now c.in-Some.wire _ no_words (omega arith) in
     (c.requires.0, subst (λ p. Full p) (sym same) (c.requires.1 c.in-Some.wire l))
-
-pub returns-in-Some : goal.returns-in-Some
-returns-in-Some c =
-    let o = open_over_lem c.args.to (links_of c.args.station.now.links) c.in-Some.wire c.in-Some.ensures in
-    let long : length c.args.words.now ≡ 8 = search rules in
-    record {
-      holds = c.give_packet.ensures.holds ∙ ap (λ z. contents c.args.out.now ++ flat_map out_bytes z) (ap (λ p. packet_on c.in-Some.wire p) (get_or_default c.args.words.now c.in-Some.wire _ no_words (omega (arith, o.small))) ∙ sym (told_over_lem c.args.words.now c.args.to (links_of c.args.station.now.links) c.in-Some.wire o));
-      used = c.give_packet.ensures.used;
-    }

@@ -1,13 +1,12 @@
 -- Each turn sees one.
-use Rattle.std.proofs.Common.{◌≡◌, ℕ, ◌+◌, ◌<◌, false, List, map, get_or, sym, refl, ap, ◌∙◌, subst}
+use Rattle.std.proofs.Common.{◌+◌, List, map, sym, refl, ap, ◌∙◌, subst}
 use Rattle.messages.specs.declared.values.WordId.{WordId}
 use Rattle.linkmodel.specs.Station.{Sight, sees_all}
 use Rattle.model.specs.Box.{Box}
 use Rattle.router.specs.State.{box_of}
 use Rattle.std.specs.List.{list_any}
 use Rattle.station.specs.Packets.{is_out, is_spent, no_id, sight_of}
-use Rattle.station.proofs.Admitted.{id_fits_lem}
-use Rattle.station.proofs.Scans.{any_in_take, first_in_take, none_here, none_later}
+use Rattle.station.proofs.Scans.{any_in_take, first_in_take, none_later}
 use Rattle.station.proofs.Seeing.{SameRoads, roads_refl, seen_end, seen_step, sees_from}
 use Rattle.station.proofs.seens.seen_all.Goals as goal
 
@@ -34,21 +33,6 @@ loop-id-preserved c =
       none_later (is_out a.router.n) no_id xs k h inv.2,
       none_later is_spent no_id xs k h inv.3,
     )
-
-pub seen_one-next-requires : goal.seen_one-next-requires
-seen_one-next-requires c =
-    let a = c.args in
-    let k = c.loop-id.id-index in
-    let xs = c.held-shown.result.now in
-    let h = c.loop-id-test.true in
-    let inv = c.loop-id.invariant in
-    let b = box_of c.loop-id.next in
-    let x = get_or xs k no_id in
-    let one : a.from < b.n = subst (λ (n : ℕ). a.from < n) (sym inv.1.boxes) c.requires.0 in
-    let road : 0 < b.cost a.from = subst (λ (y : ℕ). 0 < y) (sym (inv.1.roads a.from)) c.requires.1.0 in
-    id_fits_lem a.from x b one road
-    (subst (λ (n : ℕ). is_out n x ≡ false) (sym inv.1.boxes) (none_here (is_out a.router.n) no_id xs k h inv.2))
-    (none_here is_spent no_id xs k h inv.3)
 
 pub returns : goal.returns
 returns c =

@@ -1,15 +1,13 @@
 -- Each turn hears one word.
-use Rattle.std.proofs.Common.{◌≡◌, ℕ, ◌<◌, false, List, [], ◌∷◌, map, length, get_or, None, Option, sym, refl, ap, ◌∙◌, subst, arith, rules}
+use Rattle.std.proofs.Common.{◌≡◌, ◌<◌, List, [], ◌∷◌, map, length, get_or, None, Option, sym, refl, ap, ◌∙◌, subst, arith, rules}
 use Rattle.messages.specs.declared.values.Word.{Word}
 use Rattle.router.specs.State.{box_of}
 use Rattle.router.specs.declared.answers.Outcome.{Outcome}
 use Rattle.linkmodel.specs.Station.{takes_all}
-use Rattle.station.specs.Packets.{is_out, is_spent}
 use Rattle.station.specs.Ticking.{item_of}
-use Rattle.station.proofs.Admitted.{id_fits_lem}
 use Rattle.station.proofs.Carrying.{four_blank}
-use Rattle.station.proofs.Scans.{few_told, none_here}
-use Rattle.station.proofs.TakingWords.{GoodWords, any_word, good_told, heard_end, heard_more, heard_none, outcomes, outcomes_end, outcomes_told, takes_told}
+use Rattle.station.proofs.Scans.{few_told}
+use Rattle.station.proofs.TakingWords.{GoodWords, good_told, heard_end, heard_more, heard_none, outcomes, outcomes_end, outcomes_told, takes_told}
 use Rattle.station.proofs.taking.hear_all.Goals as goal
 
 pub loop-k-init : goal.loop-k-init
@@ -21,21 +19,6 @@ loop-k-init c =
       heard_none a.fits a.from ws a.tags (box_of a.router) (None ∷ None ∷ None ∷ None ∷ []) refl (four_blank None None refl) (subst (GoodWords a.router.n) (sym c.held-told.ensures) (good_told a.router.n p.count p.items c.requires.1.1)),
       few_told p.count 4 p.items ws l c.held-told.ensures,
     )
-
-pub hear_one-outcome-requires : goal.hear_one-outcome-requires
-hear_one-outcome-requires c =
-    let a = c.args in
-    let k = c.loop-k.k in
-    let ws = c.held-told.result.now in
-    let h = c.loop-k-test.true in
-    let inv = c.loop-k.invariant.0 in
-    let b = box_of c.loop-k.next in
-    let x = (get_or ws k any_word).id in
-    let one : a.from < b.n = subst (λ (i : ℕ). a.from < i) (sym inv.same.boxes) c.requires.0 in
-    let road : 0 < b.cost a.from = subst (λ (i : ℕ). 0 < i) (sym (inv.same.roads a.from)) c.requires.1.0 in
-    id_fits_lem a.from x b one road
-    (subst (λ (i : ℕ). is_out i x ≡ false) (sym inv.same.boxes) (none_here (λ y. is_out a.router.n y.id) any_word ws k h inv.good.0))
-    (none_here (λ y. is_spent y.id) any_word ws k h inv.good.1)
 
 pub loop-k-preserved : goal.loop-k-preserved
 loop-k-preserved c =

@@ -1,6 +1,7 @@
 -- Arrays of zeros and silent wires are the state of a box that was just switched on.
 use Rattle.std.proofs.Common.{refl, rules}
-use Rattle.hello.proofs.Tables.{at_zeros, all_silent}
+use Rattle.messages.proofs.Zeros.{at_zeros}
+use Rattle.hello.proofs.Tables.{all_silent}
 use Rattle.hello.proofs.Same.{same_links}
 use Rattle.hello.proofs.state.Links.new.Goals as goal
 

@@ -11,14 +11,6 @@ use Rattle.node.proofs.state.Node.note_words.Goals as goal
 pub loop-k-init : goal.loop-k-init
 loop-k-init c = added_as 0 _ (added_none c.args.out.now) (omega arith) (sym (notes_none c.args.outcomes c.args.words.items c.args.tags (whole_of c.args.self.now)))
 
-pub note_outcome-requires : goal.note_outcome-requires
-note_outcome-requires c =
-    let four : length c.args.words.items ≡ 4 = search rules in
-    let few : c.args.words.count ≤ length c.args.words.items = omega (arith, c.requires.1.0) in
-    let long = told_long c.args.words.count c.args.words.items c.held-told.result.now c.held-told.ensures few in
-    let same = told_item c.args.words.count c.loop-k.k c.args.words.items c.held-told.result.now _ c.held-told.ensures few c.loop-k-test.true in
-    (omega (arith, c.loop-k.invariant.used, c.requires.0, c.requires.1.0), subst (λ (w : Word). w.id.count < 2 ^ 63) (sym same) (c.requires.1.1 c.loop-k.k (omega arith)))
-
 pub loop-k-preserved : goal.loop-k-preserved
 loop-k-preserved c =
     let s = whole_of c.args.self.now in
@@ -28,11 +20,3 @@ loop-k-preserved c =
     added_more _ _ c.loop-k.invariant
     (added_as 1 _ c.note_outcome.ensures (omega arith) (ap (λ (w : Word). flat_map (note_of s) (note_for (get_or c.args.outcomes c.loop-k.k None) (item_of w) (get_or c.args.tags c.loop-k.k 0) s)) same))
     (omega arith) (notes_more c.args.outcomes c.args.words.items c.args.tags s c.loop-k.k)
-
-pub returns : goal.returns
-returns c =
-    let four : length c.args.words.items ≡ 4 = search rules in
-    let few : c.args.words.count ≤ length c.args.words.items = omega (arith, c.requires.1.0) in
-    let long = told_long c.args.words.count c.args.words.items c.held-told.result.now c.held-told.ensures few in
-    let k : c.loop-k.k ≡ c.args.words.count = omega arith in
-    added_as 4 _ c.loop-k.invariant (omega (arith, c.requires.1.0)) (ap (λ n. flat_map (note_of (whole_of c.args.self.now)) (notes_for c.args.outcomes c.args.words.items c.args.tags (whole_of c.args.self.now) n)) k)

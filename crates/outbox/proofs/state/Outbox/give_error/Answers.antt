@@ -2,7 +2,7 @@ use Rattle.std.proofs.Common.{◌≡◌, ◌≤◌, ◌∷◌, ◌++◌, length,
 use Rattle.frames.proofs.Lines.{front_put}
 use Rattle.packets.specs.Errors.{error_of}
 use Rattle.outbox.specs.Parcels.{contents, parcel_bytes, sealed}
-use Rattle.outbox.proofs.InPlace.{error_small, front_small}
+use Rattle.outbox.proofs.InPlace.{error_small}
 use Rattle.outbox.proofs.state.Outbox.give_error.Goals as goal
 
 -- there is always room for it

@@ -1,5 +1,5 @@
 -- What isn't refused comes over an open road, and is in range.
-use Rattle.std.proofs.Common.{◌≡◌, ℕ, Bool, cond, [], Option, sym, refl, ap, ◌∙◌, subst, eq-eqb, ne_eqb}
+use Rattle.std.proofs.Common.{◌≡◌, ℕ, Bool, cond, [], Option, sym, refl, ap, ◌∙◌, subst, eq-eqb}
 use Rattle.model.specs.Box.{Box, map_in}
 use Rattle.linkmodel.specs.Calls.{Joined}
 use Rattle.linkmodel.specs.Station.{heard_seens, sees_all, teller, with_box}
@@ -30,18 +30,6 @@ rejoined-requires c =
       subst (λ (b : Box). Joined (with_box b s)) (sym q) (seen_joined e xs s (joined_had s c.args.self.joined)),
       (ap map_in q ∙ seen_map e xs s.box, ap (λ (b : Box). b.me) q ∙ seen_self e xs s.box),
     )
-
-pub returns-then-seens-last : goal.returns-then-seens-last
-returns-then-seens-last c =
-    let s = station_of c.args.self in
-    let e = c.in_ok-from.from in
-    let p = seens_of c.args.seens in
-    record {
-      so = λ es st. st;
-      refused = c.in_ok-from.ensures.refused;
-      is = sym (ap (λ (o : Option ℕ). seens_from o p s) c.in_ok-from.ensures.from
-          ∙ ap (λ (b : Bool). with_box (cond b (sees_all e p.items s.box) s.box) s) (ne_eqb p.drawn (s.links.last e) (λ q. c.if-seens-last.true (q ∙ sym c.last.ensures))));
-    }
 
 pub returns : goal.returns
 returns c =

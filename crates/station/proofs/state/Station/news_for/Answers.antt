@@ -8,7 +8,7 @@ use Rattle.linkmodel.specs.Station.{Item, news_for}
 use Rattle.station.specs.Packets.{is_out}
 use Rattle.station.specs.State.{station_of}
 use Rattle.station.specs.Ticking.{item_of, no_word}
-use Rattle.station.proofs.AnsweringWords.{about_in_lem, news_left, news_end, news_step, put_as, put_count, put_list, put_more, put_none, put_not, rest_blank}
+use Rattle.station.proofs.AnsweringWords.{news_left, news_end, news_step, put_as, put_count, put_list, put_more, put_none, put_not, rest_blank}
 use Rattle.station.proofs.Scans.{NonePass, few_told, first_in_take, none_later, none_told}
 use Rattle.station.proofs.TakingWords.{any_word}
 use Rattle.station.proofs.state.Station.news_for.Goals as goal
@@ -29,9 +29,6 @@ loop-word-init c =
       few_told p.count 4 p.items ws l c.held-told.ensures,
       none.drawn ∙ c.drawn.ensures,
     )
-
-pub word_of-requires : goal.word_of-requires
-word_of-requires c = about_in_lem c.args.self.router.n c.loop-word.word-index c.held-told.result.now c.loop-word-test.true c.loop-word.invariant.1
 
 pub loop-word-preserved : goal.loop-word-preserved
 loop-word-preserved c =
