@@ -7,9 +7,9 @@ use crate::state::{Links, Wire};
 
 impl Links {
     // The lowest wire over which the road to a box is open.
-    pub fn wire_to(self, to: u8) -> Option<u8>
-        ensures lowest { LowestTo to (links_of self) result }
-        ensures costs { road_cost to (links_of self) ≡ cost_over result (links_of self) }
+    pub fn wire_to(&self, to: u8) -> Option<u8>
+        ensures lowest { LowestTo to (links_of self.now) result }
+        ensures costs { road_cost to (links_of self.now) ≡ cost_over result (links_of self.now) }
     {
         self.wires
             .iter()
@@ -18,8 +18,8 @@ impl Links {
     }
 
     // What the road to a box costs, 0 if it isn't open.
-    pub fn road(self, to: u8) -> u16
-        ensures { result ≡ road_cost to (links_of self) }
+    pub fn road(&self, to: u8) -> u16
+        ensures { result ≡ road_cost to (links_of self.now) }
     {
         self.wire_to(to).map_or(0, |wire| self.cost(wire))
     }
@@ -42,15 +42,15 @@ impl Links {
     }
 
     // The drawn number of the last hello that it took from a box, 0 if there was none.
-    pub fn last(self, of: u8) -> u64
-        ensures { result ≡ (links_of self).last of }
+    pub fn last(&self, of: u8) -> u64
+        ensures { result ≡ (links_of self.now).last of }
     {
         self.last.get(usize::from(of)).copied().unwrap_or(0)
     }
 
     // What a wire costs, 0 if there is none.
-    pub fn cost(self, wire: u8) -> u16
-        ensures { result ≡ (links_of self).cost wire }
+    pub fn cost(&self, wire: u8) -> u16
+        ensures { result ≡ (links_of self.now).cost wire }
     {
         self.costs.get(usize::from(wire)).copied().unwrap_or(0)
     }

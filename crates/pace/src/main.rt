@@ -1,26 +1,24 @@
-// Forwards packets through one running box, for measuring: pace [COUNT], a thousand if no count is given.
+// Forwards packets through one running box, for measuring.
 //
-// It sets up box 1 of three between its neighbours, by bytes as on the wires, and prints how many of COUNT packets from box 0 went on to box 2.
+// It sets up box 1 of three between its neighbours, by bytes as on the wires, and prints how many packets from box 0 went on to box 2; or how large a box's state is.
 #![tactic(auto)]
 
 mod setting_up;
 
+use node::Node;
 use outbox::{Outbox, Port};
 use setting_up::Setup;
 use std::{env, io};
 
-// How many to forward.
-fn count(rt: &HostRuntime) -> io::Result<u64> {
-    let mut args = env::args(rt)?;
-    let _program = args.next();
-    let Some(word) = args.next() else {
-        return Ok(1000);
-    };
-    Ok(word.as_str().parse::<u64>().unwrap_or(1000))
-}
+const HELP: &str = "pace [COUNT]: forwards COUNT packets, a thousand if no number is given, through one running box,
+and prints how many went on.
+pace --size: prints how many bytes the state of a box has.
+";
 
-fn main(rt: HostRuntime) -> io::Result<()> {
-    let count = count(&rt)?;
+// How many packets are forwarded where no number is given.
+const COUNT: u64 = 1000;
+
+fn forward(rt: &HostRuntime, count: u64) -> io::Result<()> {
     let mut out = Outbox::new();
     let Ok(setup) = Setup::new(&mut out) else {
         return println!(rt; "not set up");
@@ -34,4 +32,17 @@ fn main(rt: HostRuntime) -> io::Result<()> {
         }
     }
     println!(rt; "{forwarded} of {count} forwarded")
+}
+
+fn main(rt: HostRuntime) -> io::Result<()> {
+    let mut args = env::args(&rt)?;
+    let _program = args.next();
+    let Some(word) = args.next() else {
+        return forward(&rt, COUNT);
+    };
+    match word.as_str() {
+        "--help" => rt.print(HELP),
+        "--size" => println!(rt; "{} bytes", std::mem::size_of::<Node>()),
+        word => forward(&rt, word.parse().unwrap_or(COUNT)),
+    }
 }

@@ -44,18 +44,18 @@ impl Router {
     }
 
     // The count of its own word, 0 for none.
-    fn count(self) -> u64
-        ensures { result ≡ ((box_of self).word self.me).number }
+    fn count(&self) -> u64
+        ensures { result ≡ ((box_of self.now).word self.now.me).number }
     {
         self.words.id_of(self.me).count
     }
 
     // Whether what it has said of its road to x is so; with no road open it need have said nothing.
-    fn said_so(self, x: u8) -> bool
+    fn said_so(&self, x: u8) -> bool
         requires { x < 64 }
-        ensures { result ≡ own_so_at (box_of self) x }
+        ensures { result ≡ own_so_at (box_of self.now) x }
     {
-        let cost = self.cost(x);
+        let cost = self.links[usize::from(x)];
         self.words.cost(self.me, x) == cost && (cost == 0 || self.count() > 0)
     }
 
@@ -110,7 +110,7 @@ impl Router {
         ensures { (i : ℕ) → bit result i ≡ (nat_lt i self.n && nat_lt 0 ((box_of self).word i).number) }
     {
         (0..self.n)
-            .filter(|i| self.id_of(*i).count > 0)
+            .filter(|i| self.words.id_of(*i).count > 0)
             .fold(0, |had, i| bits::with_bit(had, i))
     }
 }

@@ -44,8 +44,8 @@ fn is_lowest(links: Links, to: u8, wire: u8) -> bool
 
 impl Station {
     // The words that it tells a neighbour.
-    fn telling_to(self, to: u8) -> Words
-        ensures { Carries result (station_of self).links.drawn (items_of (tells to (station_of self).box) (station_of self).box) }
+    fn telling_to(&self, to: u8) -> Words
+        ensures { Carries result (station_of self.now).links.drawn (items_of (tells to (station_of self.now).box) (station_of self.now).box) }
     {
         let picked = telling::tells(self.router, to);
         let abouts = picked.places();
@@ -61,9 +61,9 @@ impl Station {
     }
 
     // The words that go out on a wire: those for the box to which it is the lowest open wire, when it is time to tell.
-    fn words_on(self, wire: u8) -> Words
+    fn words_on(&self, wire: u8) -> Words
         requires { wire < 8 }
-        ensures { Carries result (station_of self).links.drawn (told_on wire (station_of self)) }
+        ensures { Carries result (station_of self.now).links.drawn (told_on wire (station_of self.now)) }
     {
         let drawn = self.links.drawn();
         if self.links.now() % TELLS_EVERY != 0 {
@@ -76,8 +76,8 @@ impl Station {
     }
 
     // The same for each wire.
-    pub(crate) fn all_words(self) -> [Words; 8]
-        ensures { (w : ℕ) → w < 8 → Carries (slice_index_or result w no_words) (station_of self).links.drawn (told_on w (station_of self)) }
+    pub(crate) fn all_words(&self) -> [Words; 8]
+        ensures { (w : ℕ) → w < 8 → Carries (slice_index_or result w no_words) (station_of self.now).links.drawn (told_on w (station_of self.now)) }
     {
         std::array::from_fn(|w| self.words_on(w as u8))
     }

@@ -8,4 +8,4 @@ use Rattle.station.proofs.state.Station.all_words.Goals as goal
 
 pub returns : goal.returns
 returns c w h =
-    made_at _ (λ (i : ℕ) (p : Words). Carries p (station_of c.args.self).links.drawn (told_on i (station_of c.args.self))) _ (λ i y q k. search rules) _ _ w no_words c.from_fn.ensures.items h
+    made_at _ (λ (i : ℕ) (p : Words). Carries p (station_of c.args.self.now).links.drawn (told_on i (station_of c.args.self.now))) _ (λ i y q k. search rules) _ _ w no_words c.from_fn.ensures.items h

@@ -14,7 +14,7 @@ loop-k-init c = let x = c.default-items.result in (refl, λ j q. absurd (omega a
 
 pub word_of-requires : goal.word_of-requires
 word_of-requires c =
-    let b = (station_of c.args.self).box in
+    let b = (station_of c.args.self.now).box in
     let e = c.args.to in
     let ps = tells e b in
     let k = c.loop-k.k in
@@ -30,7 +30,7 @@ word_of-requires c =
 
 pub returns : goal.returns
 returns c =
-    let b = (station_of c.args.self).box in
+    let b = (station_of c.args.self.now).box in
     let e = c.args.to in
     let ps = tells e b in
     let ys = items_of ps b in

@@ -1,0 +1,4 @@
+pub mod Hex
+pub mod Inputs
+pub mod Outputs
+pub mod Back

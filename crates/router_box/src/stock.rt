@@ -1,0 +1,47 @@
+// The numbers that were drawn for the box and not yet used.
+use std::alloc::AllocFailed;
+
+// How many are kept at most.
+const MOST: usize = 1024;
+
+// `numbers`: the next to be used first.
+#[derive(Drop)]
+pub(crate) struct Stock {
+    numbers: Vec<u64>,
+}
+
+impl Stock {
+    pub(crate) fn new(rt: &HostRuntime) -> Stock {
+        Stock {
+            numbers: Vec::new(rt.alloc()),
+        }
+    }
+
+    // One number more; or it is one too many.
+    pub(crate) fn put(&mut self, number: u64) -> Result<bool, AllocFailed<u64>> {
+        if self.numbers.len() >= MOST {
+            return Ok(false);
+        }
+        self.numbers.push(number)?;
+        Ok(true)
+    }
+
+    // How many are wanting of so many.
+    pub(crate) fn wants(&self, count: u8) -> u8 {
+        let kept = u8::try_from(self.numbers.len()).unwrap_or(u8::MAX);
+        count.saturating_sub(kept)
+    }
+
+    // The next number, which stays; 0 where there is none.
+    pub(crate) fn next(&self) -> u64 {
+        self.numbers.as_slice().first().copied().unwrap_or(0)
+    }
+
+    // The next number; 0 where there is none.
+    pub(crate) fn take(&mut self) -> u64 {
+        if self.numbers.is_empty() {
+            return 0;
+        }
+        self.numbers.remove(0)
+    }
+}
