@@ -10,7 +10,8 @@ use outbox::{Outbox, Port};
 use setting_up::Setup;
 use std::{env, io};
 
-const HELP: &str = "pace [COUNT]: forwards COUNT packets, a thousand if no number is given, through one running box,
+const HELP: &str =
+    "pace [COUNT]: forwards COUNT packets, a thousand if no number is given, through one running box,
 and prints how many went on.
 pace --size: prints how many bytes the state of a box has.
 ";
