@@ -4,3 +4,4 @@ pub mod Ticked
 pub mod Framing
 pub mod Heard
 pub mod Passed
+pub mod Begun

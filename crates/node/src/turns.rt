@@ -1,5 +1,6 @@
 // A box is switched on, gets other settings and falls.
-ghost use Rattle.std.specs.Prelude.{◌≡◌};
+ghost use Rattle.std.specs.Prelude.{◌≡◌, [], IfOk};
+ghost use Rattle.model.specs.Box.{Stands};
 ghost use Rattle.node.specs.Handled.{TurnedBy};
 ghost use Rattle.node.specs.State.{whole_of};
 ghost use Rattle.node.specs.Turns.{BegunBy, RewiredBy, begun_by, fall_did, fall_gives, fall_leaves, settings_did, settings_give, settings_leave};
@@ -16,7 +17,8 @@ use station::Station;
 impl Node {
     // A box with these settings and this drawn number; or what is wrong with them, and nothing is given out.
     pub fn begin(settings: &[u8], drawn: u64, out: &mut Outbox) -> Result<Node, Refusal>
-        ensures { BegunBy (begun_by (value_in (settings_in settings.now)) drawn) result (contents out.new) }
+        ensures begun { BegunBy (begun_by (value_in (settings_in settings.now)) drawn) result (contents out.new) }
+        ensures so { IfOk result (λ node. Stands (whole_of node).box []) }
     {
         out.clear();
         let settings = frames::read_settings(settings)?;

@@ -1,12 +1,9 @@
-use Rattle.std.proofs.Common.{◌≡◌, ◌++◌, length, sym, ap, ◌∙◌, subst, arith, rules}
-use Rattle.std.specs.List.{flat_map}
+use Rattle.std.proofs.Common.{◌≡◌, length, sym, subst, arith, rules}
 use Rattle.std.proofs.lemmas.List.{get_or_default}
 use Rattle.hello.specs.State.{links_of}
-use Rattle.outbox.specs.Parcels.{contents}
-use Rattle.station.specs.Ticking.{no_words, packet_on}
+use Rattle.station.specs.Ticking.{no_words}
 use Rattle.node.specs.Giving.{Full}
-use Rattle.node.specs.Wires.{out_bytes}
-use Rattle.node.proofs.Steps.{open_over_lem, told_over_lem}
+use Rattle.node.proofs.Steps.{open_over_lem}
 use Rattle.node.proofs.ticking.give_telling.Goals as goal
 
 pub bounds-words-wire : goal.bounds-words-wire

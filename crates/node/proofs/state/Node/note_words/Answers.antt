@@ -1,11 +1,11 @@
-use Rattle.std.proofs.Common.{◌≡◌, ◌≤◌, ◌^◌, ◌<◌, length, get_or, None, sym, ap, subst, arith, rules}
+use Rattle.std.proofs.Common.{◌≡◌, ◌≤◌, length, get_or, None, sym, ap, arith, rules}
 use Rattle.std.specs.List.{flat_map}
 use Rattle.messages.specs.declared.values.Word.{Word}
 use Rattle.station.specs.Ticking.{item_of}
 use Rattle.node.specs.Giving.{note_of}
-use Rattle.node.specs.Hearing.{note_for, notes_for}
+use Rattle.node.specs.Hearing.{note_for}
 use Rattle.node.specs.State.{whole_of}
-use Rattle.node.proofs.Steps.{added_as, added_more, added_none, notes_more, notes_none, told_item, told_long}
+use Rattle.node.proofs.Steps.{added_as, added_more, added_none, notes_more, notes_none, told_item}
 use Rattle.node.proofs.state.Node.note_words.Goals as goal
 
 pub loop-k-init : goal.loop-k-init

@@ -1,0 +1,10 @@
+pub mod Booked
+pub mod Past
+pub mod Lines
+pub mod Owns
+pub mod Outs
+pub mod Turned
+pub mod Passes
+pub mod Worded
+pub mod Heard
+pub mod AfterCalls
