@@ -100,12 +100,9 @@ fall_kept d s r given l g j few me low = go (falls_refusal d) l g
         (just_note s (falls d s) (Began s.links.n s.links.me) (omega arith) low (omega arith, few, me) (known_begun (falls d s) s.links.n s.links.me j.count j.number refl)))
     go (Some e) l g = subst (λ z. Keeps s z given) (sym l) (subst (λ z. Keeps s s z) (sym g) (just_refused s (refusal_number e) low (reason_low e)))
 
--- the box after a tick at which it said a word, and at which it said none
+-- the box after a tick at which it said a word
 abbrev spoken : ℕ → Whole → Whole
 spoken t s = record { links = passes s.links; box = says_now t (expired s) }
-
-abbrev silent : Whole → Whole
-silent s = record { links = passes s.links; box = expired s }
 
 spoken_kept : (s r : Whole) (t : ℕ) (more : List ℕ) → r ≡ spoken t s → Joined r → r.box.n ≤ 64 → ((e : ℕ) → r.box.cost e < 2 ^ 16) → r.box.me < r.box.n → r.links.tick < 2 ^ 32 → t < 2 ^ 64 →
     suc (s.box.word s.box.me).number < 2 ^ 63 → Booked more [] → Keeps s r (note_of r (Said (own_item r)) ++ more)

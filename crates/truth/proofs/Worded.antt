@@ -67,10 +67,6 @@ then b c d xs ys p q = record {
   writable = both_writable xs ys (known_by b) p.writable (subst (AllWritable ys) (sym p.known) q.writable);
 }
 
-one_note : (x : Note) (k m : Known) → after_note x k ≡ m → after_notes (x ∷ []) k ≡ m
-unfolding after_notes
-one_note x k m e = e
-
 -- that e has it changes no word
 marked : (fits : Bool) (e : ℕ) (x : Item) (b c : Box) (xs : List Note) → Step b c xs → Step b (marks_item fits e x c) xs
 marked true e x b c xs p = record { n = p.n; me = p.me; cost = p.cost; known = p.known; writable = p.writable }
