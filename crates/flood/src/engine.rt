@@ -114,6 +114,7 @@ impl Net {
     }
 
     // What the box that was called last gave out goes where it belongs; and the number of the refusal that it noted, if it noted one.
+    // Kept: a place goes from parcel to parcel, as `Outbox::parcel` gives the next. An iterator would say in its law what that call says, and this loop would lend the outbox to it for as long.
     fn post(&mut self, rt: &HostRuntime, a: u8) -> Result<Option<u8>, Trouble> {
         let mut refused = None;
         let mut at = 0;

@@ -191,6 +191,7 @@ impl Running {
     }
 
     // What the last call gave out is printed, and the lines of the journal go into the book.
+    // Kept: a place goes from parcel to parcel, as `Outbox::parcel` gives the next. An iterator would say in its law what that call says, and this loop would lend the outbox to it for as long.
     fn post(&mut self, rt: &HostRuntime) -> io::Result<()> {
         let mut at = 0;
         for _parcel in 0..MOST_PARCELS {
