@@ -1,4 +1,4 @@
-// Reads a line that the router is given.
+// Reads a line that a box is given.
 ghost use Rattle.std.specs.Prelude.{◌≡◌, IfOk};
 ghost use Rattle.console.specs.Inputs.{number_of_fault, draw_in, wire_in, input_in, CanBe};
 ghost use Rattle.console.specs.Outputs.{text_of};
@@ -10,17 +10,17 @@ use super::hex::{Hex, are_digits, number};
 // What a line asks for.
 #[derive(Drop)]
 pub enum Input<'a> {
-    // `settings HEX`: the router begins anew with these settings.
+    // `settings HEX`: settings come.
     Settings(Hex<'a>),
     // `draw HEX`: a number that was drawn, never 0.
     Draw(u64),
     // `wire W HEX`: a frame came over a wire.
     Wire(u8, Hex<'a>),
-    // `house HEX`: a frame came from the house.
+    // `house HEX`: a packet came from a house.
     House(Hex<'a>),
     // `tick`: a tick has passed.
     Tick,
-    // `fall`: the router loses all that it knew.
+    // `fall`: the box loses all that it knew.
     Fall,
 }
 

@@ -1,6 +1,6 @@
-// The lines that a running router reads on standard input and writes on standard output.
+// The lines that a running box reads on standard input and writes on standard output.
 //
-// This crate knows bytes and nothing of routers: what the settings, the frames and the records mean is for others to say.
+// This crate knows bytes and nothing of boxes: what settings, frames, packets and lines of a journal mean is for others to say.
 // It promises that every line of bytes is read as one input or refused, which bytes the digits of an input stand for, and how each output is written;
 // and that what is written for a wire or a house is read on the other side as the same bytes.
 #![tactic(auto)]

@@ -1,4 +1,4 @@
-// Writes a line that the router gives.
+// Writes a line that a box gives.
 ghost use Rattle.std.specs.Prelude.{Some};
 ghost use Rattle.console.specs.Outputs.{hex_text, text_of};
 
@@ -10,11 +10,11 @@ use std::fmt;
 pub enum Output<'a> {
     // `wire W HEX`: a frame goes over a wire.
     Wire(u8, &'a [u8]),
-    // `house HEX`: a frame goes to the house.
+    // `house HEX`: a packet goes to a house.
     House(&'a [u8]),
     // `book HEX`: a line goes into the journal.
     Book(&'a [u8]),
-    // `draw K`: so many numbers are to be drawn.
+    // `draw K`: so many numbers are wanting.
     Draw(u8),
     // `refused N`: the line that was read is refused.
     Refused(Fault),

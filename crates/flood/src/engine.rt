@@ -26,7 +26,7 @@ const MOST_PARCELS: usize = 65536 / 3;
 // The kind of a frame of words.
 const WORDS: u8 = 2;
 
-// `count`: how many boxes there are. `boxes`: by their numbers. `flight`: what was sent in the last tick, in the order in which it was sent; `sent`: the same in this tick.
+// `count`: how many boxes there are. `boxes`: by their numbers. `flight`: what is on the wires, in the order in which it was sent; `sent`: what the line or tick that is played adds to it, so that it is empty between lines.
 // `drawn`: the last number drawn; each is drawn once, for a tag or for a life. `out`: what the box that was called last gave out.
 #[derive(Drop)]
 pub(crate) struct Net {
@@ -77,9 +77,7 @@ impl Net {
                 costs: [0; 8],
             });
             let drawn = net.draw();
-            let Ok(node) = Node::begin(&settings, drawn, &mut net.out) else {
-                return Err(Trouble::Refused(Fault::Form));
-            };
+            let node = Node::begin(&settings, drawn, &mut net.out).or(Err(Fault::Form))?;
             net.boxes.push(node)?;
             let _ = net.post(rt, me)?;
         }
@@ -87,10 +85,11 @@ impl Net {
     }
 
     pub(crate) fn at_rest(&self, rt: &HostRuntime) -> Result<bool, Trouble> {
-        let mut routers: Vec<Router> = Vec::new(rt.alloc());
-        for node in self.boxes.iter() {
-            routers.push(node.router())?;
-        }
+        let routers: Vec<Router> = self
+            .boxes
+            .iter()
+            .map(|node| node.router())
+            .collect(rt.alloc())?;
         Ok(net::at_rest(routers.as_slice()))
     }
 
@@ -323,12 +322,16 @@ impl Net {
         command: Command,
     ) -> Result<Option<Fate>, Trouble> {
         match command {
-            Command::Boxes(_) => return Err(Trouble::Refused(Fault::Form)),
+            Command::Boxes(_) => return Err(Fault::Form.into()),
             Command::Road(a, e, cost, back) => self.road(rt, a, e, cost, back)?,
             Command::Fall(a) => self.fall(rt, a)?,
             Command::Lose(a, e, count) => self.wires.lose(a, e, count)?,
             Command::Tick(count) => self.ticks(rt, count)?,
-            Command::Send(a, e) => return Ok(Some(self.send(rt, a, e)?)),
+            Command::Send(a, e) => {
+                let fate = self.send(rt, a, e)?;
+                self.flight.append(&mut self.sent)?;
+                return Ok(Some(fate));
+            }
         }
         Ok(None)
     }

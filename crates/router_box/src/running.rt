@@ -90,11 +90,11 @@ impl Running {
     }
 
     fn draw(&mut self, number: u64) -> io::Result<Done> {
-        if self.stock.put(number)? {
-            Ok(Done::Done)
-        } else {
-            Ok(Fault::Form.into())
+        if self.stock.is_full() {
+            return Ok(Fault::Form.into());
         }
+        self.stock.put(number)?;
+        Ok(Done::Done)
     }
 
     // Settings come: the first ones that are good begin the box.

@@ -17,13 +17,14 @@ impl Stock {
         }
     }
 
-    // One number more; or it is one too many.
-    pub(crate) fn put(&mut self, number: u64) -> Result<bool, AllocFailed<u64>> {
-        if self.numbers.len() >= MOST {
-            return Ok(false);
-        }
-        self.numbers.push(number)?;
-        Ok(true)
+    // Whether no more are kept.
+    pub(crate) fn is_full(&self) -> bool {
+        self.numbers.len() >= MOST
+    }
+
+    // One number more.
+    pub(crate) fn put(&mut self, number: u64) -> Result<(), AllocFailed<u64>> {
+        self.numbers.push(number)
     }
 
     // How many are wanting of so many.
