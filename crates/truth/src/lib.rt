@@ -1,7 +1,7 @@
 // The calls of a running box, with what they mean for its journal: whatever comes, the lines that the box gave out since it began tell just how many boxes there are, which it is, and which words it has;
 // and they tell what it knew at each earlier tick.
 //
-// A program calls these in place of the box's own calls. They do the same.
+// A program can call these in place of the box's own calls. They do the same.
 #![tactic(auto)]
 
 mod fits;
