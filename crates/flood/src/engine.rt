@@ -1,50 +1,40 @@
 // The net that is played: running boxes, the wires between them, and the frames on the wires.
 use crate::fate::Fate;
-use crate::packet::{packet, packet_in};
+use crate::packet::packet;
 use crate::trouble::Trouble;
 use crate::watch::{Asked, Watch};
-use crate::wires::{Carried, End, Wires};
 use frames::Entry;
-use messages::Settings;
+use ground::{Carried, End, Ground, Plug};
 use node::Node;
 use outbox::{Outbox, Port};
-use router::Router;
+use packets::packet_in;
 use script::{Command, Fault};
 use std::io;
 use std::io::IsTerminal;
+use travel::{Step, Traveller};
 
-// A frame on its way, with the end at which it arrives.
+// A frame on its way: where it was sent, and over which wire.
 #[derive(Drop)]
 struct Letter {
-    to: End,
+    from: End,
+    over: Plug,
     frame: Vec<u8>,
 }
 
 // The most parcels that one call of a box gives out: none has fewer than three bytes.
 const MOST_PARCELS: usize = 65536 / 3;
 
-// The kind of a frame of words.
-const WORDS: u8 = 2;
-
-// `count`: how many boxes there are. `boxes`: by their numbers. `flight`: what is on the wires, in the order in which it was sent; `sent`: what the line or tick that is played adds to it, so that it is empty between lines.
-// `drawn`: the last number drawn; each is drawn once, for a tag or for a life. `out`: what the box that was called last gave out.
+// `count`: how many boxes there are. `boxes`: by their numbers. `ground`: the wires between them, and the numbers that are drawn.
+// `flight`: what is on the wires, in the order in which it was sent; `sent`: what the line or tick that is played adds to it, so that it is empty between lines. `out`: what the box that was called last gave out.
 #[derive(Drop)]
 pub(crate) struct Net {
     count: u8,
     boxes: Vec<Node>,
-    wires: Wires,
+    ground: Ground,
     flight: Vec<Letter>,
     sent: Vec<Letter>,
-    drawn: u64,
     out: Outbox,
     watch: Watch,
-}
-
-// The settings of a box as bytes.
-fn bytes_of(settings: Settings) -> [u8; 19] {
-    let mut bytes = [0u8; 19];
-    let _ = frames::write_settings(settings, &mut bytes);
-    bytes
 }
 
 // The number of the refusal that a line of the journal notes, if it notes one.
@@ -63,45 +53,27 @@ impl Net {
         let mut net = Net {
             count,
             boxes: Vec::new(rt.alloc()),
-            wires: Wires::new(rt),
+            ground: Ground::new(),
             flight: Vec::new(rt.alloc()),
             sent: Vec::new(rt.alloc()),
-            drawn: 0,
             out: Outbox::new(),
             watch: Watch::new(rt, asked, count)?,
         };
         for me in 0..count {
-            let settings = bytes_of(Settings {
-                boxes: count,
-                me,
-                costs: [0; 8],
-            });
-            let drawn = net.draw();
-            let node = Node::begin(&settings, drawn, &mut net.out).or(Err(Fault::Form))?;
+            let node = net::begin(&mut net.ground, count, me, &mut net.out).or(Err(Fault::Form))?;
             net.boxes.push(node)?;
             let _ = net.post(rt, me)?;
         }
         Ok(net)
     }
 
-    pub(crate) fn at_rest(&self, rt: &HostRuntime) -> Result<bool, Trouble> {
-        let routers: Vec<Router> = self
-            .boxes
-            .iter()
-            .map(|node| node.router())
-            .collect(rt.alloc())?;
-        Ok(net::at_rest(routers.as_slice()))
+    pub(crate) fn at_rest(&self) -> bool {
+        net::at_rest(self.boxes.as_slice())
     }
 
     // All that is to be kept is in its files.
     pub(crate) fn close(&mut self) -> io::Result<()> {
         self.watch.flush()
-    }
-
-    // A number that was never drawn before.
-    fn draw(&mut self) -> u64 {
-        self.drawn = self.drawn.saturating_add(1);
-        self.drawn
     }
 
     fn has(&self, a: u8) -> Result<(), Fault> {
@@ -126,9 +98,9 @@ impl Net {
                 Port::Wire(wire) => {
                     let from = End { at: a, wire };
                     self.watch.sends(rt, from, parcel.bytes)?;
-                    if let Carried::To(to) = self.wires.carry(from) {
+                    if let Carried::To(over) = self.ground.carry(from) {
                         let frame = Vec::from_slice(rt.alloc(), parcel.bytes)?;
-                        self.sent.push(Letter { to, frame })?;
+                        self.sent.push(Letter { from, over, frame })?;
                     }
                 }
                 Port::House => self.watch.hands_out(rt, a, parcel.bytes)?,
@@ -143,22 +115,16 @@ impl Net {
 
     // The end of a box's wire changes its cost.
     fn set_cost(&mut self, rt: &HostRuntime, end: End, cost: u16) -> Result<(), Trouble> {
-        let Some(node) = self.boxes.get_mut(usize::from(end.at)) else {
-            return Ok(());
-        };
-        let links = node.links();
-        let mut costs: [u16; 8] = std::array::from_fn(|w| links.cost(w as u8));
-        if let Some(place) = costs.get_mut(usize::from(end.wire)) {
-            *place = cost;
-        }
-        let settings = bytes_of(Settings {
-            boxes: links.boxes(),
-            me: links.box_number(),
-            costs,
-        });
-        node.settings(&settings, &mut self.out);
+        net::set_cost(self.boxes.as_mut_slice(), end, cost, &mut self.out);
         self.post(rt, end.at)?;
         Ok(())
+    }
+
+    // The ends of the wire between two boxes, if there is one, that of `a` first.
+    fn between(&self, a: u8, e: u8) -> Option<(End, End)> {
+        let here = self.ground.between(a, e)?;
+        let there = self.ground.across(here)?;
+        Some((here, there.end))
     }
 
     // A wire is laid at the lowest free number of each end, or its costs change; 0 0 takes it away, and what is on it is lost.
@@ -172,17 +138,17 @@ impl Net {
     ) -> Result<(), Trouble> {
         self.has(a)?;
         self.has(e)?;
-        let (here, there) = match self.wires.between(a, e) {
+        let (here, there) = match self.between(a, e) {
             Some(ends) => ends,
-            None if cost > 0 => self.wires.lay(a, e)?,
+            None if cost > 0 => {
+                net::lay(self.boxes.as_slice(), &mut self.ground, a, e).ok_or(Fault::Form)?
+            }
             None => return Ok(()),
         };
         self.set_cost(rt, here, cost)?;
         self.set_cost(rt, there, back)?;
         if cost == 0 {
-            self.wires.take_away(here);
-            self.flight
-                .retain(|letter| letter.to != here && letter.to != there);
+            net::take_away(&mut self.ground, here);
         }
         Ok(())
     }
@@ -190,11 +156,20 @@ impl Net {
     // A box loses all that it knew, and draws a new number.
     fn fall(&mut self, rt: &HostRuntime, a: u8) -> Result<(), Trouble> {
         self.has(a)?;
-        let drawn = self.draw();
-        if let Some(node) = self.boxes.get_mut(usize::from(a)) {
-            node.fall(drawn, &mut self.out);
-        }
+        net::fall(
+            self.boxes.as_mut_slice(),
+            &mut self.ground,
+            a,
+            &mut self.out,
+        );
         self.post(rt, a)?;
+        Ok(())
+    }
+
+    // The next things that go from one box to another are lost.
+    fn lose(&mut self, a: u8, e: u8, count: u32) -> Result<(), Fault> {
+        let here = self.ground.between(a, e).ok_or(Fault::Form)?;
+        self.ground.lose(here, count);
         Ok(())
     }
 
@@ -221,48 +196,46 @@ impl Net {
     }
 
     fn tick_box(&mut self, rt: &HostRuntime, a: u8) -> Result<(), Trouble> {
-        let tag = self.draw();
-        if let Some(node) = self.boxes.get_mut(usize::from(a)) {
-            node.tick(tag, &mut self.out);
-        }
+        net::tick(
+            self.boxes.as_mut_slice(),
+            &mut self.ground,
+            a,
+            &mut self.out,
+        );
         self.post(rt, a)?;
         Ok(())
     }
 
-    // A frame comes to a box; and where the packet in it goes on to, if it is one that goes on.
-    fn wire(
-        &mut self,
-        rt: &HostRuntime,
-        to: End,
-        frame: &mut [u8],
-    ) -> Result<Option<Port>, Trouble> {
-        self.watch.takes(rt, to, frame)?;
-        let tags = match frame.first() {
-            Some(&WORDS) => [self.draw(), self.draw(), self.draw(), self.draw()],
-            _ => [0; 4],
-        };
-        match self.boxes.get_mut(usize::from(to.at)) {
-            Some(node) => Ok(node.wire(to.wire, frame, tags, &mut self.out)),
-            None => Ok(None),
-        }
-    }
-
-    // A frame arrives: what it makes the box give out goes its way, and so does the frame of a packet that is handed on.
+    // A frame arrives, unless its wire is gone: what it makes the box give out goes its way, and so does the frame of a packet that is handed on.
     fn arrive(&mut self, rt: &HostRuntime, letter: Letter) -> Result<(), Trouble> {
-        let Letter { to, mut frame } = letter;
-        let port = self.wire(rt, to, frame.as_mut_slice())?;
-        self.post(rt, to.at)?;
+        let Letter {
+            from,
+            over,
+            mut frame,
+        } = letter;
+        if !self.ground.reaches(from, over) {
+            return Ok(());
+        }
+        let at = over.end.at;
+        self.watch.takes(rt, over.end, frame.as_slice())?;
+        let port = net::arrive(
+            self.boxes.as_mut_slice(),
+            &mut self.ground,
+            from,
+            over,
+            frame.as_mut_slice(),
+            &mut self.out,
+        );
+        self.post(rt, at)?;
         match port {
             Some(Port::Wire(wire)) => {
-                let from = End { at: to.at, wire };
+                let from = End { at, wire };
                 self.watch.sends(rt, from, frame.as_slice())?;
-                if let Carried::To(to) = self.wires.carry(from) {
-                    self.sent.push(Letter { to, frame })?;
+                if let Carried::To(over) = self.ground.carry(from) {
+                    self.sent.push(Letter { from, over, frame })?;
                 }
             }
-            Some(_) => self
-                .watch
-                .hands_out(rt, to.at, packet_in(frame.as_slice()))?,
+            Some(_) => self.watch.hands_out(rt, at, packet_in(frame.as_slice()))?,
             None => {}
         }
         Ok(())
@@ -274,45 +247,34 @@ impl Net {
         self.has(e)?;
         let mut frame = packet(a, e);
         let mut boxes = Vec::new(rt.alloc());
-        let mut cost = 0u32;
-        let mut at = a;
-        let mut port = match self.boxes.get_mut(usize::from(a)) {
-            Some(node) => node.house(&mut frame, &mut self.out),
-            None => None,
-        };
+        let mut packet = Traveller::from_house(a);
         for _step in 0..=64 {
+            let at = packet.at;
             boxes.push(at)?;
+            let step = packet.step(
+                self.boxes.as_mut_slice(),
+                &mut self.ground,
+                &mut frame,
+                &mut self.out,
+            );
             let refused = self.post(rt, at)?;
-            match port {
-                Some(Port::Wire(wire)) => {
-                    let from = End { at, wire };
-                    self.watch.sends(rt, from, &frame)?;
-                    cost = cost.saturating_add(self.cost(from));
-                    match self.wires.carry(from) {
-                        Carried::To(to) => {
-                            at = to.at;
-                            port = self.wire(rt, to, &mut frame)?;
-                        }
-                        Carried::Lost(to) => return Ok(Fate::Lost(at, to)),
-                        Carried::Nowhere => return Ok(Fate::Lost(at, at)),
-                    }
+            match step {
+                Step::Onward(wire, to) => {
+                    self.watch.sends(rt, End { at, wire }, &frame)?;
+                    self.watch.takes(rt, to, &frame)?;
                 }
-                Some(_) => {
+                Step::Out => {
                     self.watch.hands_out(rt, at, packet_in(&frame))?;
-                    return Ok(Fate::Arrived(boxes, cost));
+                    return Ok(Fate::Arrived(boxes, packet.cost));
                 }
-                None => return Ok(Fate::Refused(at, refused.unwrap_or(0))),
+                Step::Refused => return Ok(Fate::Refused(at, refused.unwrap_or(0))),
+                Step::Lost(wire, to) => {
+                    self.watch.sends(rt, End { at, wire }, &frame)?;
+                    return Ok(Fate::Lost(at, to));
+                }
             }
         }
-        Ok(Fate::Refused(at, 0))
-    }
-
-    // What a wire of a box costs from it.
-    fn cost(&self, end: End) -> u32 {
-        match self.boxes.get(usize::from(end.at)) {
-            Some(node) => u32::from(node.links().cost(end.wire)),
-            None => 0,
-        }
+        Ok(Fate::Refused(packet.at, 0))
     }
 
     // A line of a net that is played already, and what became of the packet that it sends, if it does.
@@ -325,7 +287,7 @@ impl Net {
             Command::Boxes(_) => return Err(Fault::Form.into()),
             Command::Road(a, e, cost, back) => self.road(rt, a, e, cost, back)?,
             Command::Fall(a) => self.fall(rt, a)?,
-            Command::Lose(a, e, count) => self.wires.lose(a, e, count)?,
+            Command::Lose(a, e, count) => self.lose(a, e, count)?,
             Command::Tick(count) => self.ticks(rt, count)?,
             Command::Send(a, e) => {
                 let fate = self.send(rt, a, e)?;

@@ -9,7 +9,6 @@ mod packet;
 mod play;
 mod trouble;
 mod watch;
-mod wires;
 
 use play::Player;
 use std::io::{BufRead, BufReader};

@@ -11,11 +11,3 @@ pub(crate) fn packet(from: u8, to: u8) -> [u8; 25] {
     frame[11..13].copy_from_slice(&sum.to_be_bytes());
     frame
 }
-
-// The packet in a frame: without the kind before it and the sum behind it.
-pub(crate) fn packet_in(frame: &[u8]) -> &[u8] {
-    match frame {
-        [_, packet @ .., _, _, _, _] => packet,
-        _ => &[],
-    }
-}

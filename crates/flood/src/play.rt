@@ -13,7 +13,7 @@ pub(crate) struct Player {
 }
 
 fn tell_rest(rt: &HostRuntime, net: &Net) -> Result<(), Trouble> {
-    let word = if net.at_rest(rt)? { "rest" } else { "no rest" };
+    let word = if net.at_rest() { "rest" } else { "no rest" };
     println!(rt; "{word}")?;
     Ok(())
 }

@@ -1,5 +1,5 @@
 // What is seen of the boxes from outside: what each sends and takes, if that is asked for, and its journal.
-use crate::wires::End;
+use ground::End;
 use std::fs::File;
 use std::io::{BufWriter, Write};
 use std::{fmt, fs, io};

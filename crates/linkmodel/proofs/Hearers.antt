@@ -1,7 +1,8 @@
 -- Whom a box has heard on its wires, and under which numbers, after each input.
-use Rattle.std.proofs.Common.{◌≡◌, ℕ, suc, ◌+◌, true, cond, eqb, ltb, ◌⊎◌, List, ◌∷◌, Some, None, Option, sym, refl, ap, ◌∙◌, inl, inr, arith, eqb-true}
+use Rattle.std.proofs.Common.{◌≡◌, ℕ, suc, ◌+◌, ◌<◌, true, false, cond, eqb, ltb, ◌⊎◌, List, ◌∷◌, Some, None, Option, sym, refl, ap, ◌∙◌, inl, inr, arith, eqb-true}
 use Rattle.model.specs.Words.{is_in}
 use Rattle.model.proofs.Tests.{of_cond, or_right}
+use Rattle.linkmodel.proofs.Bools.{true_not_false}
 use Rattle.linkmodel.specs.Links.{Wire, Silent, Heard, Open, Hello, Links, holds_for, who_on, road_cost, aged, closed_to, greeted, passes, hears_hello, rewired}
 use Rattle.linkmodel.specs.Hellos.{accepts}
 use Rattle.linkmodel.specs.Station.{open_to, teller}
@@ -63,6 +64,11 @@ known_more c d ds e = or_right (eqb c d) (is_in d ds) e
 pub known_on : (c d : ℕ) (ds : List ℕ) → Known d ds → Known d (c ∷ ds)
 known_on c d ds (inl z) = inl z
 known_on c d ds (inr e) = inr (known_more c d ds e)
+
+-- a number that was never drawn is none that is known
+pub not_known : {A : Type 0} (d : ℕ) (ds : List ℕ) → 0 < d → is_in d ds ≡ false → Known d ds → A
+not_known d ds p q (inl z) = absurd (omega arith)
+not_known d ds p q (inr e) = true_not_false (is_in d ds) e q
 
 -- the numbers last heard stay known when a hello brings a known one
 pub hears_known : (ds : List ℕ) (v : ℕ) (h : Hello) (s : Links) → is_in h.drawn ds ≡ true → ((e : ℕ) → Known (s.last e) ds) → (e : ℕ) → Known ((hears_hello v h s).last e) ds

@@ -18,12 +18,9 @@ pub mod Newer
 pub mod Fitting
 pub mod Hearers
 pub mod Outgoing
-pub mod Airs
-pub mod Shown
 pub mod Showing
 pub mod Staying
 pub mod Quieting
-pub mod QuietNet
 pub mod Starving
 -- which events each thing that a box does is
 pub mod Joins

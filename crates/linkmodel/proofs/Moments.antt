@@ -96,7 +96,8 @@ still_drawn n (Wired b c) x r e = of_cond (λ (y : Hellos). is_in r y.drawn ≡ 
 still_drawn n (Falls b d) x r e = of_cond (λ (y : Hellos). is_in r y.drawn ≡ true) (ltb b n && (ltb 0 d && not (is_in d x.drawn))) (record { box = row b (fell d (x.box b)) x.box; sent = x.sent; drawn = d ∷ x.drawn }) x
     (λ _. or_right (eqb d r) (is_in r x.drawn) e) (λ _. e)
 
-first_drawn_lem : (first : ℕ → ℕ) (n a : ℕ) → a < n → is_in (first a) (first_drawn first n) ≡ true
+-- each first number is drawn
+pub first_drawn_lem : (first : ℕ → ℕ) (n a : ℕ) → a < n → is_in (first a) (first_drawn first n) ≡ true
 unfolding is_in first_drawn
 first_drawn_lem first zero a h = absurd (omega arith)
 first_drawn_lem first (suc k) a h = go (eqb a k) refl (λ z. first_drawn_lem first k a z)

@@ -1,18 +1,15 @@
 -- What is shown stays shown while the word stays, over each thing that a box does.
-use Rattle.std.proofs.Common.{◌≡◌, ℕ, zero, suc, ◌<◌, Bool, true, false, cond, not, ◌&&◌, eqb, ltb, List, [], ◌∷◌, Some, None, Option, sym, refl, subst, arith, lt-ltb, eq-eqb, eqb-true}
-use Rattle.model.specs.Flood.{row}
-use Rattle.model.specs.Words.{Entry, Word, newer, is_in}
+use Rattle.std.proofs.Common.{◌≡◌, ℕ, ◌<◌, Bool, true, false, cond, not, ◌&&◌, eqb, ltb, List, [], ◌∷◌, sym, refl, subst, arith, lt-ltb, eq-eqb, eqb-true}
+use Rattle.model.specs.Words.{Entry, Word, newer}
 use Rattle.model.specs.Box.{Box, is_open, has, own_word, says_now, is_new_to, takes, sees, must_say}
 use Rattle.model.proofs.Tests.{of_cond, cond-true, or_left}
 use Rattle.linkmodel.proofs.Bools.{true_not_false, and_right, and_both, not_is}
-use Rattle.linkmodel.specs.Links.{Links, lowest_to, road_cost, passes, hears_hello, rewired, fell}
+use Rattle.linkmodel.specs.Links.{Links, lowest_to, road_cost, passes, fell}
 use Rattle.linkmodel.specs.Relinked.{relinked}
-use Rattle.linkmodel.specs.Station.{Station, Item, Bundle, Sight, Seens, Frame, Greets, Tells, Shows, teller, told_word, can_say, is_stuck, takes_item, marks_item, takes_all, sees_all, says_if_owed, heard_words, heard_seens, heard_hello, has_costs, falls, ticks, tick_out}
-use Rattle.linkmodel.specs.Wired.{Sent, Cables, Air, Ticks, Arrives, Rewires, Falls, becomes, meets_words, meets_seens, meets, all_fresh, arrives_nth}
-use Rattle.linkmodel.specs.Telling.{KeepsShown, ShownStays}
+use Rattle.linkmodel.specs.Station.{Station, Item, Bundle, Sight, Seens, told_word, can_say, is_stuck, takes_item, marks_item, takes_all, sees_all, says_if_owed, heard_words, heard_seens, falls, ticks}
+use Rattle.linkmodel.specs.Telling.{KeepsShown}
 use Rattle.linkmodel.proofs.Newer.{newer_upto, newer_over, newer_above, same_not_older}
 use Rattle.linkmodel.proofs.Fitting.{Grows, grows_on, item_grows, mark_grows, words_grow}
-use Rattle.linkmodel.proofs.Airs.{at_row, falls_at}
 
 -- what is shown stays so where the word got no newer
 abbrev pub Kept : Box → Box → Type 0
@@ -77,68 +74,34 @@ relinked_kept before after b e i h p q l =
     and_both (eqb (before.last e) (after.last e)) (ltb 0 (road_cost e before) && (ltb 0 (road_cost e after) && b.shown e i)) (eq-eqb (before.last e) (after.last e) (sym l))
     (and_both (ltb 0 (road_cost e before)) (ltb 0 (road_cost e after) && b.shown e i) (lt-ltb 0 (road_cost e before) p) (and_both (ltb 0 (road_cost e after)) (b.shown e i) (lt-ltb 0 (road_cost e after) q) h))
 
--- each thing that a whole box does
+-- what is shown stays so over each thing that a whole box does: over nothing,
 pub keeps_self : (s : Station) → KeepsShown s s
 keeps_self s e i h p q l w = h
 
-keeps_hello : (s : Station) (after : Links) → KeepsShown s (record { links = after; box = relinked s.links after s.box })
+-- over changed links, by a hello or by new costs,
+pub keeps_hello : (s : Station) (after : Links) → KeepsShown s (record { links = after; box = relinked s.links after s.box })
 keeps_hello s after e i h p q l w = relinked_kept s.links after s.box e i h p q l
 
-keeps_ticks : (t : ℕ) (s : Station) → KeepsShown s (ticks t s)
+-- over a tick,
+pub keeps_ticks : (t : ℕ) (s : Station) → KeepsShown s (ticks t s)
 keeps_ticks t s e i h p q l w =
     owed_kept t (relinked s.links (passes s.links) s.box) e i (relinked_kept s.links (passes s.links) s.box e i h p q l) (same_not_older (s.box.word i) ((ticks t s).box.word i) w)
 
-keeps_words : (e : ℕ) (p : Bundle) (ts : List ℕ) (s : Station) → KeepsShown s (heard_words e p ts s)
+-- over a packet of words,
+pub keeps_words : (e : ℕ) (p : Bundle) (ts : List ℕ) (s : Station) → KeepsShown s (heard_words e p ts s)
 keeps_words g p ts s e i h a b l w =
     words_kept (eqb p.drawn (s.links.last g)) g p.items ts s.box e i h (same_not_older (s.box.word i) ((heard_words g p ts s).box.word i) w)
 
-keeps_seens : (e : ℕ) (p : Seens) (s : Station) → KeepsShown s (heard_seens e p s)
+-- over one of seens,
+pub keeps_seens : (e : ℕ) (p : Seens) (s : Station) → KeepsShown s (heard_seens e p s)
 keeps_seens g p s e i h a b l w =
     of_cond (λ (y : Box). y.shown e i ≡ true) (eqb p.drawn (s.links.last g)) (sees_all g p.items s.box) s.box (λ _. seens_kept g p.items s.box e i h) (λ _. h)
 
 -- no road is open after a fall
-pub fell_shut : (d : ℕ) (s : Links) (e : ℕ) → road_cost e (fell d s) ≡ 0
+fell_shut : (d : ℕ) (s : Links) (e : ℕ) → road_cost e (fell d s) ≡ 0
 unfolding lowest_to
 fell_shut d s e = refl
 
-keeps_falls : (d : ℕ) (s : Station) → KeepsShown s (falls d s)
+-- and over a fall
+pub keeps_falls : (d : ℕ) (s : Station) → KeepsShown s (falls d s)
 keeps_falls d s e i h a b l w = let z : road_cost e (fell d s.links) ≡ 0 = fell_shut d s.links e in absurd (omega arith)
-
--- one box of the net becomes another
-keeps_row : (x : Air) (b : ℕ) (s : Station) (a : ℕ) → KeepsShown (x.at b) s → KeepsShown (x.at a) (row b s x.at a)
-keeps_row x b s a k = at_row (KeepsShown (x.at a)) b s x.at a (λ e. subst (λ (z : ℕ). KeepsShown (x.at z) s) (sym e) k) (λ _. keeps_self (x.at a))
-
-keeps_meets : (x : Air) (b w : ℕ) (f : Frame) (ts : List ℕ) (a : ℕ) → KeepsShown (x.at a) ((meets b w f ts x).at a)
-keeps_meets x b w (Greets h) ts a = keeps_row x b (heard_hello w h (x.at b)) a (keeps_hello (x.at b) (hears_hello w h (x.at b).links))
-keeps_meets x b w (Tells p) ts a = go (teller w (x.at b).links)
-  where
-    go : (q : Option ℕ) → KeepsShown (x.at a) ((meets_words b q p ts x).at a)
-    go None = keeps_self (x.at a)
-    go (Some e) = keeps_row x b (heard_words e p ts (x.at b)) a (keeps_words e p ts (x.at b))
-keeps_meets x b w (Shows p) ts a = go (teller w (x.at b).links)
-  where
-    go : (q : Option ℕ) → KeepsShown (x.at a) ((meets_seens b q p x).at a)
-    go None = keeps_self (x.at a)
-    go (Some e) = keeps_row x b (heard_seens e p (x.at b)) a (keeps_seens e p (x.at b))
-
-keeps_arrives : (n i : ℕ) (cables : Cables) (ts : List ℕ) (fs : List Sent) (x : Air) (a : ℕ) → KeepsShown (x.at a) ((arrives_nth n i cables ts fs x).at a)
-unfolding arrives_nth
-keeps_arrives n zero cables ts [] x a = keeps_self (x.at a)
-keeps_arrives n (suc i) cables ts [] x a = keeps_self (x.at a)
-keeps_arrives n zero cables ts (f ∷ fs) x a =
-    of_cond (λ (y : Air). KeepsShown (x.at a) (y.at a)) (ltb (cables.to f.by f.on) n) (meets (cables.to f.by f.on) (cables.end f.by f.on) f.frame ts x) x
-    (λ _. keeps_meets x (cables.to f.by f.on) (cables.end f.by f.on) f.frame ts a) (λ _. keeps_self (x.at a))
-keeps_arrives n (suc i) cables ts (f ∷ fs) x a = keeps_arrives n i cables ts fs x a
-
-pub shown_stays_lem : ShownStays
-shown_stays_lem n cables (Ticks b t) x a =
-    of_cond (λ (y : Air). KeepsShown (x.at a) (y.at a)) (ltb b n && not (is_in t x.tags)) (becomes b (ticks t (x.at b)) (tick_out (ticks t (x.at b))) (t ∷ []) x) x
-    (λ _. keeps_row x b (ticks t (x.at b)) a (keeps_ticks t (x.at b))) (λ _. keeps_self (x.at a))
-shown_stays_lem n cables (Arrives i ts) x a =
-    of_cond (λ (y : Air). KeepsShown (x.at a) (y.at a)) (all_fresh ts x.tags) (arrives_nth n i cables ts x.sent x) x (λ _. keeps_arrives n i cables ts x.sent x a) (λ _. keeps_self (x.at a))
-shown_stays_lem n cables (Rewires b c) x a =
-    of_cond (λ (y : Air). KeepsShown (x.at a) (y.at a)) (ltb b n) (becomes b (has_costs c (x.at b)) [] [] x) x
-    (λ _. keeps_row x b (has_costs c (x.at b)) a (keeps_hello (x.at b) (rewired c (x.at b).links))) (λ _. keeps_self (x.at a))
-shown_stays_lem n cables (Falls b d) x a =
-    of_cond (λ (y : Air). KeepsShown (x.at a) (y.at a)) (ltb b n && (ltb 0 d && not (is_in d x.drawn))) (falls_at b d x) x
-    (λ _. keeps_row x b (falls d (x.at b)) a (keeps_falls d (x.at b))) (λ _. keeps_self (x.at a))

@@ -10,8 +10,7 @@ use Rattle.model.proofs.Sizes.{world_n}
 use Rattle.model.proofs.Rows.{Like, like_of, stands_of, like_sees, like_takes}
 use Rattle.model.proofs.BoxCode.{one_comes}
 use Rattle.linkmodel.specs.Station.{Station, Item, Sight, with_box, told_word, is_stuck, takes_item, marks_item, takes_all, takings, sees_all}
-use Rattle.linkmodel.specs.Wired.{all_fresh}
-use Rattle.linkmodel.specs.Calls.{Joined, SeensSo, WordsSo, are_sent, none_stuck}
+use Rattle.linkmodel.specs.Calls.{Joined, SeensSo, WordsSo, are_sent, none_stuck, all_fresh}
 
 -- another box on the same wires, with the same roads
 joined_sees : (s : Station) (e i c t : ℕ) (b : Box) → Joined (with_box b s) → Joined (with_box (sees e i c t b) s)

@@ -90,6 +90,10 @@ row_at w x r = cond-true (eqb w w) x (r w) (eq-eqb w w refl)
 pub row_off : {A : Type 0} (w v : ℕ) (x : A) (r : ℕ → A) → (v ≡ w → ⊥) → row w x r v ≡ r v
 row_off w v x r k = cond-false (eqb v w) x (r v) (ne_eqb v w k)
 
+-- what holds of the new row, and of the old ones elsewhere, holds of each
+pub at_row : {A : Type 0} (Q : A → Type 0) (a : ℕ) (s : A) (r : ℕ → A) (b : ℕ) → (b ≡ a → Q s) → ((b ≡ a → ⊥) → Q (r b)) → Q (row a s r b)
+at_row Q a s r b p q = of_cond Q (eqb b a) s (r b) (λ e. p (eqb-true b a e)) (λ e. q (eqb-false b a e))
+
 -- a wire that is open after a taken hello was opened by it
 pub record OpenedBy (v : ℕ) (h : Hello) (s : Links) (w f d t : ℕ) : Type 0 where
   pub here : w ≡ v

@@ -7,7 +7,6 @@ use Rattle.model.specs.Boxes.{words_to, words_out}
 use Rattle.linkmodel.specs.Links.{Hello, road_cost, passes, hears_hello, rewired, fell, relinks}
 use Rattle.linkmodel.specs.Relinked.{Sound, relinked}
 use Rattle.linkmodel.specs.Station.{Station, Item, Bundle, Seens, told_word, can_say, is_stuck, takes_item, marks_item, takings, heard_words, heard_seens, heard_hello, has_costs, falls, ticks}
-use Rattle.linkmodel.specs.Wired.{all_fresh}
 
 -- wires and words of one box: the roads are those that the wires hold open
 pub record Joined (s : Station) : Type 0 where
@@ -60,6 +59,11 @@ unfoldable pub none_stuck : Bool → ℕ → List Item → List ℕ → Box → 
 none_stuck fits e [] ts b = true
 none_stuck fits e (x ∷ xs) [] b = true
 none_stuck fits e (x ∷ xs) (t ∷ ts) b = not (is_stuck (told_word e b.me x) b) && none_stuck fits e xs ts (marks_item fits e x (takes_item e x t b))
+
+-- no tag of these was drawn before, nor twice
+unfoldable pub all_fresh : List ℕ → List ℕ → Bool
+all_fresh [] old = true
+all_fresh (t ∷ ts) old = not (is_in t old) && (not (is_in t ts) && all_fresh ts old)
 
 -- A packet of words is the coming of each, in their order, wherever it is among all words sent; then the newer ones that it has are sent.
 abbrev pub WordsSo : Type 0

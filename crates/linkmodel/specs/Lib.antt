@@ -3,6 +3,5 @@ pub mod Hellos
 pub mod Relinked
 pub mod Agreeing
 pub mod Station
-pub mod Wired
 pub mod Calls
 pub mod Telling

@@ -6,7 +6,6 @@ use Rattle.model.specs.Box.{Box, must_say, tells}
 use Rattle.linkmodel.specs.Links.{wires, road_cost, passes}
 use Rattle.linkmodel.specs.Relinked.{Sound}
 use Rattle.linkmodel.specs.Station.{Station, Item, Sight, Frame, Greets, Tells, Shows, seens_for, items_of, heard_words, heard_seens, ticks, hellos_on, tick_out}
-use Rattle.linkmodel.specs.Wired.{Sent, Cables, Air, Move, Ticks, move, air}
 use Rattle.linkmodel.specs.Calls.{expired}
 
 -- a box after a packet of words or seens of e that carries the number last heard of e
@@ -42,10 +41,6 @@ KeepsShown s r =
     (e i : ℕ) → s.box.shown e i ≡ true → 0 < road_cost e s.links → 0 < road_cost e r.links → r.links.last e ≡ s.links.last e →
     same_word (s.box.word i) (r.box.word i) ≡ true → r.box.shown e i ≡ true
 
--- What is shown stays so over every move.
-abbrev pub ShownStays : Type 0
-ShownStays = (n : ℕ) (cables : Cables) (m : Move) (x : Air) (a : ℕ) → KeepsShown (x.at a) ((move n cables m x).at a)
-
 -- e has shown all that the box has
 abbrev pub AllShown : ℕ → Box → Type 0
 AllShown e b = (i : ℕ) → i < b.n → 0 < (b.word i).number → b.shown e i ≡ true
@@ -64,21 +59,11 @@ OnlyHellos = (s : Station) → Settled s → tick_out s ≡ hellos_on s.links wi
 abbrev pub QuietTick : Type 0
 QuietTick = (s : Station) (t : ℕ) → Sound s.links → Settled s → must_say (expired s) ≡ false → tick_out (ticks t s) ≡ hellos_on (passes s.links) wires
 
--- all these are hellos
+-- this is a hello
 abbrev pub is_hello : Frame → Bool
 is_hello (Greets h) = true
 is_hello (Tells p) = false
 is_hello (Shows p) = false
-
-unfoldable pub all_hellos : List Sent → Bool
-all_hellos [] = true
-all_hellos (f ∷ fs) = is_hello f.frame && all_hellos fs
-
--- In a net, whatever happened before, a box along whose open roads all is shown and that need say nothing sends only hellos at its tick.
-abbrev pub QuietNet : Type 0
-QuietNet =
-    (n : ℕ) (cables : Cables) (first : ℕ → ℕ) (ms : List Move) (a t : ℕ) → Settled ((air n cables first ms).at a) → must_say (expired ((air n cables first ms).at a)) ≡ false →
-    (news : List Sent) × ((air n cables first (Ticks a t ∷ ms)).sent ≡ news ++ (air n cables first ms).sent) × (all_hellos news ≡ true)
 
 -- how many below k pass the test
 unfoldable pub how_many : (ℕ → Bool) → ℕ → ℕ

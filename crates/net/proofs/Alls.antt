@@ -1,12 +1,10 @@
--- What holds of all below n, one by one; and the box at a place of a list.
+-- What holds of all below n, one by one.
 use Rattle.std.proofs.Common.{◌≡◌, ℕ, zero, suc, ◌+◌, ◌<◌, Bool, true, false, ◌&&◌, List, [], ◌∷◌, length, get_or, sym, refl, ap, ◌∙◌, inl, inr, add-zero, add-one, arith}
 use mathlib.Core.Bool.{and-true}
 use Rattle.std.specs.List.{list_all, range_with_len, zip}
 use Rattle.std.proofs.lemmas.Bool.{and_left, and_right, both_ways, cases_Bool, cases_eq}
 use Rattle.model.specs.Promise.{all_below}
-use Rattle.router.specs.State.{box_of}
-use Rattle.router.specs.declared.state.Router.{Router}
-use Rattle.net.specs.Nets.{box_in}
+use Rattle.node.specs.declared.state.Node.{Node}
 
 -- a test holds below m just where it does below k and of each of the others
 all_on : (n k m : ℕ) (f : ℕ → Bool) → m ≡ k + n → all_below m f ≡ (all_below k f && list_all f (range_with_len k n))
@@ -26,7 +24,7 @@ unfolding all_below
 all_listed n f = sym (all_on n 0 n f (omega arith))
 
 -- a test of boxes with their numbers holds of all just where one of the numbers does
-pub all_zipped : (k : ℕ) (ss : List Router) (g : ℕ × Router → Bool) (f : ℕ → Bool) → ((i x : ℕ) (d : Router) → x ≡ k + i → i < length ss → g (x, get_or ss i d) ≡ f x) → list_all g (zip (range_with_len k (length ss)) ss) ≡ list_all f (range_with_len k (length ss))
+pub all_zipped : (k : ℕ) (ss : List Node) (g : ℕ × Node → Bool) (f : ℕ → Bool) → ((i x : ℕ) (d : Node) → x ≡ k + i → i < length ss → g (x, get_or ss i d) ≡ f x) → list_all g (zip (range_with_len k (length ss)) ss) ≡ list_all f (range_with_len k (length ss))
 all_zipped k [] g f h = refl
 all_zipped k (s ∷ ss) g f h = λ j. h 0 k s (omega arith) (omega arith) j && all_zipped (k + 1) ss g f (λ i x d e l. h (suc i) x d (omega (arith, e)) (omega (arith, l))) j
 
@@ -36,13 +34,6 @@ unfolding all_below
 all_fails zero i f h e = absurd (omega arith)
 all_fails (suc n) i f h e =
     elim (cases_eq i n) [ inl p ↦ and_left (f n) (all_below n f) (ap f (sym p) ∙ e) | inr p ↦ and_right (f n) (all_below n f) (all_fails n i f (omega arith) e) ]
-
--- the box at a place
-pub box_at : (ss : List Router) (a : ℕ) (d : Router) → a < length ss → box_in ss a ≡ box_of (get_or ss a d)
-unfolding box_in
-box_at [] a d h = absurd (omega arith)
-box_at (s ∷ ss) zero d h = refl
-box_at (s ∷ ss) (suc a) d h = box_at ss a d (omega arith)
 
 -- tests that agree below n
 pub all_same : (n : ℕ) (f g : ℕ → Bool) → ((i : ℕ) → i < n → f i ≡ g i) → all_below n f ≡ all_below n g

@@ -1,3 +1,9 @@
+pub mod Wholes
+pub mod Settled
+pub mod Turns
+pub mod Lays
+pub mod Begins
+pub mod Arrives
 pub mod Alls
 pub mod Calm
-pub mod Routes
+pub mod Rests

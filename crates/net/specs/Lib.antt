@@ -1,1 +1,3 @@
 pub mod Nets
+pub mod Plays
+pub mod Resting

@@ -53,9 +53,9 @@ pub empty_lem : (o : Outbox) → o.used ≡ 0 → contents o ≡ []
 empty_lem o e = ap (λ k. take k o.bytes) e
 
 -- what a frame was read as
-pub read_lem : (x : Result Told Fault) (f : Frame) → ReadAs x (Ok f) → x ≡ Ok (told_by f)
-read_lem (Ok t) f h = ap (λ (y : Told). Ok y) h
-read_lem (Err e) f h = absurd h
+pub read_lem : (from : Option ℕ) (x : Result Told Fault) (f : Frame) → ReadAs from x (Ok f) → x ≡ Ok (told_by f)
+read_lem from (Ok t) f h = ap (λ (y : Told). Ok y) h
+read_lem from (Err e) f h = absurd h
 
 -- a frame that isn't refused
 pub heard_lem : (w : ℕ) (ts : List ℕ) (s : Whole) (q : Quota) (f new : List ℕ) (x : Result Told Fault) (t : Told) (o : Option Reason) (h : Handled) (after : Node) →

@@ -13,6 +13,7 @@ use Rattle.linkmodel.specs.Station.{Item, Station as Whole, heard_hello, teller}
 use Rattle.outbox.specs.declared.reading.Port.{Port}
 use Rattle.packets.specs.declared.error_quota.Quota.{Quota}
 use Rattle.octets.specs.Faults.{fault_number}
+use Rattle.octets.specs.declared.Fault.TheVariants.{Count, Form, Range}
 use Rattle.frames.specs.Reading.{Told, a_hello, a_packet, some_seen, some_words}
 use Rattle.station.specs.Events.{AnswersDid, Did, WordsDid}
 use Rattle.station.specs.Hearing.{answers_from, outcomes_from, words_from, words_refusal}
@@ -23,6 +24,8 @@ use Rattle.station.specs.declared.answers.Refusal.{Refusal as Reason}
 use Rattle.node.specs.Book.{Note, Refused, Said, Taken}
 use Rattle.node.specs.Giving.{if_refused, note_of}
 use Rattle.node.specs.Passing.{Passed, passed}
+use Rattle.node.specs.Refusals.{number_of}
+use Rattle.node.specs.declared.refusals.Refusal.TheVariants.{NoRoad}
 use Rattle.node.specs.Wires.{out_bytes}
 
 -- a word that a box says above one that it was told, with its roads as they are
@@ -76,9 +79,16 @@ words_give w p ts s =
 abbrev pub passed_as : Passed → Whole → Handled
 passed_as p s = record { whole = s; gives = p.gives; errors = p.errors; frame = p.frame; goes = p.goes }
 
+-- the number for a frame that is read as a fault: that a count is one that nobody says matters only over an open road, since of what is read whole the lowest number wins
+abbrev pub unread : Fault → Option ℕ → ℕ
+unread Form from = fault_number Form
+unread Range from = fault_number Range
+unread Count (Some e) = fault_number Count
+unread Count None = number_of NoRoad
+
 -- a frame on wire w, by what it is read as
 abbrev pub by_frame : ℕ → Result Told Fault → List ℕ → Whole → Quota → List ℕ → Handled
-by_frame w (Err e) ts s q f = refused_by (fault_number e) s q f
+by_frame w (Err e) ts s q f = refused_by (unread e (teller w s.links)) s q f
 by_frame w (Ok (a_hello h)) ts s q f = unless_refused (hello_refusal w (greeting_of h) s) (handled (heard_hello w (greeting_of h) s) [] q f) s q f
 by_frame w (Ok (some_words p)) ts s q f = unless_refused (words_refusal w p s) (handled (words_leave w p ts s) (words_give w p ts s) q f) s q f
 by_frame w (Ok (some_seen p)) ts s q f = unless_refused (seens_refusal w p s) (handled (seens_from (teller w s.links) (seens_of p) s) [] q f) s q f

@@ -1,5 +1,5 @@
 -- What a box does with a packet: where it goes, and what is given out for one that is refused. Assumes nothing.
-use Rattle.std.specs.Prelude.{◌≡◌, ℕ, ◌-◌, Bool, cond, List, [], ◌∷◌, ◌++◌, length, take, drop, Some, None, Ok, Err, Option, Result, ◌==◌, nat_lt}
+use Rattle.std.specs.Prelude.{◌≡◌, ℕ, Bool, cond, List, [], ◌∷◌, ◌++◌, Some, None, Ok, Err, Option, Result, ◌==◌, nat_lt}
 use Rattle.model.specs.Box.{hop_in}
 use Rattle.model.specs.Map.{Hop, Nowhere, To}
 use Rattle.linkmodel.specs.Station.{Station as Whole}
@@ -8,6 +8,7 @@ use Rattle.outbox.specs.declared.reading.Port.{Port}
 use Rattle.outbox.specs.declared.reading.Port.TheVariants.{House, Wire}
 use Rattle.packets.specs.Errands.{errand_of}
 use Rattle.packets.specs.Errors.{error_of, is_error}
+pub use Rattle.packets.specs.Packet.{packet_in}
 use Rattle.packets.specs.Packet.{box_from, echoed, handed_on}
 use Rattle.packets.specs.Quotas.{granted}
 use Rattle.packets.specs.declared.error_quota.Quota.{Quota}
@@ -57,10 +58,6 @@ pub record Passed : Type 0 where
   pub errors : Quota
   pub frame : List ℕ
   pub goes : Option Port
-
--- the packet in a frame: without the kind before it and the sum behind it
-abbrev pub packet_in : List ℕ → List ℕ
-packet_in f = take (length f - 4 - 1) (drop 1 f)
 
 -- the frame of a packet
 abbrev pub framed : List ℕ → List ℕ

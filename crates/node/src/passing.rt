@@ -13,17 +13,9 @@ ghost use Rattle.packets.specs.declared.values.Trouble.{Trouble as AnyTrouble};
 use crate::refusals::Refusal;
 use crate::state::Node;
 use outbox::{Outbox, Port};
-use packets::{Errand, Trouble};
+use packets::{Errand, Trouble, packet_in};
 
-// Kept: a frame is bytes of which four functions ask that there are five. A struct of it would hold a `&mut [u8]`, and each of them would have to promise as well that it still lends the same bytes.
-
-// The packet in a frame: without the kind before it and the sum behind it.
-fn packet_in(frame: &[u8]) -> &[u8]
-    requires { 5 ≤ length frame.now }
-    ensures { result.now ≡ packet_in frame.now }
-{
-    &frame[1..frame.len() - 4]
-}
+// Kept: a frame is bytes of which three functions ask that there are five. A struct of it would hold a `&mut [u8]`, and each of them would have to promise as well that it still lends the same bytes.
 
 // The packet in a frame is turned into another of its length, and the frame into that one's: the kind before it, and the sum behind it.
 fn turn<F: FnOnce(&mut [u8])>(frame: &mut [u8], turned: F)

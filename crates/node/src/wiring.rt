@@ -5,8 +5,9 @@ ghost use Rattle.checksum.specs.Refused.{body_of};
 ghost use Rattle.frames.specs.Ranges.{InRange};
 ghost use Rattle.frames.specs.Reading.{Told, a_hello, frame_in, some_seen, some_words, told_by};
 ghost use Rattle.node.specs.Handled.{GivesSo, HandledBy, HeardBy, HeardSo, PassedBy, ReadAs};
-ghost use Rattle.node.specs.Hearing.{Counted, FrameDid, by_frame, refused_by, untouched, words_give, words_leave};
+ghost use Rattle.node.specs.Hearing.{Counted, FrameDid, by_frame, refused_by, unread, untouched, words_give, words_leave};
 ghost use Rattle.node.specs.Passing.{passed};
+ghost use Rattle.node.specs.Refusals.{number_of};
 ghost use Rattle.node.specs.State.{whole_of};
 ghost use Rattle.outbox.specs.Parcels.{HasRoom, contents};
 ghost use Rattle.hello.specs.State.{greeting_of};
@@ -18,7 +19,7 @@ ghost use Rattle.station.specs.State.{hello_refusal};
 use crate::refusals::Refusal;
 use crate::state::Node;
 use crate::words;
-use frames::Frame;
+use frames::{Fault, Frame};
 use messages::{Hello, Seens, Words};
 use outbox::{Outbox, Port};
 
@@ -61,17 +62,30 @@ impl Node {
         Ok(())
     }
 
-    // What a frame says, where its sum is right.
-    fn read<'a>(&self, frame: &'a [u8]) -> Result<Frame<'a>, Refusal>
+    // Why a frame that is read as a fault is refused: a count that nobody says matters only over an open road, since of what is read whole the lowest number wins.
+    fn unread(&self, wire: u8, fault: Fault) -> Refusal
+        ensures { number_of result ≡ unread fault (teller wire (whole_of self.now).links) }
+    {
+        match fault {
+            Fault::Count if self.station.teller(wire).is_none() => Refusal::NoRoad,
+            fault => Refusal::from(fault),
+        }
+    }
+
+    // What a frame says that came over a wire, where its sum is right.
+    fn read<'a>(&self, wire: u8, frame: &'a [u8]) -> Result<Frame<'a>, Refusal>
         ensures unfit { (SumFits frame.now → ⊥) → result ≡ Err Refusal.Form }
-        ensures read { SumFits frame.now → ReadAs (frame_in (whole_of self.now).links.n (body_of frame.now)) result }
+        ensures read { SumFits frame.now → ReadAs (teller wire (whole_of self.now).links) (frame_in (whole_of self.now).links.n (body_of frame.now)) result }
         ensures range { IfOk result (λ f. InRange (whole_of self.now).links.n (told_by f)) }
     {
         if !checksum::crc::sum_fits(frame) {
             return Err(Refusal::Form);
         }
         let end = frame.len() - 4;
-        Ok(frames::read_frame(&frame[..end], self.station.links().boxes())?)
+        match frames::read_frame(&frame[..end], self.station.links().boxes()) {
+            Ok(frame) => Ok(frame),
+            Err(fault) => Err(self.unread(wire, fault)),
+        }
     }
 
     // What a frame does that comes over a wire; or why it is refused, and nothing changes.
@@ -87,7 +101,7 @@ impl Node {
         ensures read { SumFits frame.old → HeardBy (by_frame wire (frame_in (whole_of self.old).links.n (body_of frame.old)) tags (whole_of self.old) self.old.quota frame.old) result self.old self.new out.old out.new frame.old frame.new }
         ensures so { SumFits frame.old → (t : Told) → frame_in (whole_of self.old).links.n (body_of frame.old) ≡ Ok t → FrameDid wire t tags (whole_of self.old) (whole_of self.new) }
     {
-        match self.read(frame)? {
+        match self.read(wire, frame)? {
             Frame::Hello(hello) => self.hello(wire, hello)?,
             Frame::Words(words) => self.words(wire, words, tags, out)?,
             Frame::Seen(seens) => self.seens(wire, seens)?,

@@ -5,6 +5,10 @@ use Rattle.checksum.specs.Internet.{internet_sum, header_fits, mended_sum, put_w
 use Rattle.octets.specs.Writes.{put}
 use Rattle.packets.specs.Sums.{both_summed, sum_fits}
 
+-- the packet in a frame: without the kind before it and the sum behind it
+abbrev pub packet_in : List ℕ → List ℕ
+packet_in f = take (length f - 4 - 1) (drop 1 f)
+
 -- the four bytes of an address, from this place on
 abbrev pub address_at : ℕ → List ℕ → List ℕ
 address_at i p = slice_index p i ∷ slice_index p (i + 1) ∷ slice_index p (i + 2) ∷ slice_index p (i + 3) ∷ []

@@ -1,8 +1,9 @@
 // The theorems about nets of boxes, each carried by the contract of a function, so that the gate asks for its proof.
 //
-// The statements and their proofs are in `model` and `linkmodel`; there is no code here to run. Start with `whole`: it is the promise of the whole.
+// The statements and their proofs are in `model`, `linkmodel`, `netmodel` and `netbytes`; there is no code here to run. Start with `whole`: it is the promise of the whole.
 #![tactic(auto)]
 
+mod nets;
 mod wires;
 
 ghost use Rattle.model.specs.Boxes.{BoxIsCode, TakesSo, FallSo, TickSo, EveryBoxStands, BoxesDeliver};
@@ -14,6 +15,7 @@ ghost use Rattle.model.specs.Settling.{OneTag, RestsByRule, Progress, EndsSooner
 ghost use Rattle.model.specs.Spread.{OneTagFor, SpokenFor, OnwardFor, EndsFor, QuietFor, SettledTest, ComesToRestFor, ProgressFor, SettlesFor, SettlesAtLastFor};
 ghost use Rattle.model.specs.Ways.{ByAnyRank, ByAnyPolicy, HopPicks, AgreeOnClosed};
 
+pub use nets::{bytes_on_wires, rest_on_wires, runs_on_wires, shown_on_wires};
 pub use wires::{agreeing, hellos, relinking, shown, telling, whole_boxes};
 
 // The promise of the whole: at rest every packet arrives over a cheapest way in fewer steps than there are boxes, or is refused where it was sent; few words bring rest from every state in which both ends of each road agree; however words go by rule, only so many are new to anybody, and when none is, that is rest.

@@ -3,8 +3,7 @@ ghost use Rattle.linkmodel.specs.Agreeing.{BothOpen, BothOpenSooner, NeitherOpen
 ghost use Rattle.linkmodel.specs.Calls.{HelloSo, CostsSo, FallsSo, TicksSo, TellsSo, WordsSo, AnswersSo, SeensSo};
 ghost use Rattle.linkmodel.specs.Hellos.{OpenJustWhen, OpenMeans};
 ghost use Rattle.linkmodel.specs.Relinked.{RelinkSo, RelinkOneByOne};
-ghost use Rattle.linkmodel.specs.Telling.{SeenShows, WordShows, TakenShows, ShownStays, NothingToTell, OnlyHellos, QuietTick, QuietNet, NothingStarves, AllTold, RoundTrip};
-ghost use Rattle.linkmodel.specs.Wired.{ShownMeans};
+ghost use Rattle.linkmodel.specs.Telling.{SeenShows, WordShows, TakenShows, NothingToTell, OnlyHellos, QuietTick, NothingStarves, AllTold, RoundTrip};
 
 // A wire is open just when the last hello taken on it fits; and if a has its road to e open under a drawn number of e, then e, in that life, heard a in this life of a, whatever was lost, repeated, late or out of order.
 pub fn hellos()
@@ -26,13 +25,11 @@ pub fn relinking()
     ensures steps { RelinkOneByOne }
 {}
 
-// What shown means in every run of boxes on wires that lose, repeat, delay and reorder anything: e has that word or a newer one, as long as the number last heard of e is the one that it has.
+// Over an open road a seen of the word that a box has, and a word that the box has after the packet, wherever it is in there, show that who sent it has it; and a word of another box that isn't older is what the box has then.
 pub fn shown()
-    ensures means { ShownMeans }
     ensures seen { SeenShows }
     ensures word { WordShows }
     ensures taken { TakenShows }
-    ensures stays { ShownStays }
 {}
 
 // Over a road that stays open nothing starves, four words at a time, lowest first; and where all is shown only hellos go.
@@ -43,7 +40,6 @@ pub fn telling()
     ensures nothing { NothingToTell }
     ensures only { OnlyHellos }
     ensures tick { QuietTick }
-    ensures net { QuietNet }
 {}
 
 // Each thing that a whole box does is a list of the model's events: hellos, new costs, falls, ticks and telling, packets of words and their answers, and packets of seens.

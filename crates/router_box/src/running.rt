@@ -3,6 +3,7 @@ use crate::stock::Stock;
 use console::{Fault, Hex, Input, Output};
 use node::Node;
 use outbox::{Outbox, Port};
+use packets::packet_in;
 use std::fs::File;
 use std::io;
 use std::io::Write;
@@ -45,14 +46,6 @@ fn bytes_of(rt: &HostRuntime, hex: &Hex<'_>, before: usize, behind: usize) -> io
         let _ = hex.write(place);
     }
     Ok(bytes)
-}
-
-// The packet in a frame: without the kind before it and the sum behind it.
-fn packet_in(frame: &[u8]) -> &[u8] {
-    match frame {
-        [_, packet @ .., _, _, _, _] => packet,
-        _ => &[],
-    }
 }
 
 impl Running {

@@ -3,10 +3,9 @@ use Rattle.std.specs.Prelude.{◌≡◌, ℕ, false, T, List, ◌++◌, Some, �
 use Rattle.model.specs.Box.{Stands, sendings, tellings}
 use Rattle.model.specs.Boxes.{words_out, words_to}
 use Rattle.model.specs.Words.{Ev, is_in, world}
-use Rattle.linkmodel.specs.Calls.{abouts, are_sent, expired, none_stuck, saying}
+use Rattle.linkmodel.specs.Calls.{abouts, are_sent, expired, none_stuck, saying, all_fresh}
 use Rattle.linkmodel.specs.Links.{passes, relinks}
 use Rattle.linkmodel.specs.Station.{Bundle, Station as Whole, news_for, takings, teller}
-use Rattle.linkmodel.specs.Wired.{all_fresh}
 
 -- a box that stood after some events stands after these too
 abbrev pub Did : Whole → List Ev → Whole → Type 0

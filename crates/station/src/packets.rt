@@ -36,6 +36,13 @@ fn teller(links: Links, wire: u8) -> Option<u8>
 }
 
 impl Station {
+    // Who sends on a wire, if the road to that box is open.
+    pub fn teller(&self, wire: u8) -> Option<u8>
+        ensures { result ≡ teller wire (station_of self.now).links }
+    {
+        teller(self.links, wire)
+    }
+
     // Who sent a packet of these, unless it is refused.
     // Kept: the count and the numbers as two parameters, since a packet of words has its numbers within its words: one parameter would be a packet of numbers, whose drawn number nothing reads here, or would take a closure for the number of an item beside it.
     #[tactic(auto, using(crate::proofs::Scans::any_in_take))]

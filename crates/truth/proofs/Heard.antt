@@ -3,7 +3,6 @@ use Rattle.std.proofs.Common.{◌≡◌, ℕ, zero, suc, ◌-◌, ◌^◌, ◌<�
 use borrow.Author.Tests.{eqb-false}
 use Rattle.std.specs.List.{flat_map}
 use Rattle.octets.specs.declared.Fault.{Fault}
-use Rattle.octets.specs.Faults.{fault_number}
 use Rattle.octets.specs.Writes.{Bytes}
 use Rattle.checksum.specs.Crc.{SumFits, sum_bytes}
 use Rattle.checksum.specs.Refused.{body_of}
@@ -30,7 +29,7 @@ use Rattle.station.specs.declared.answers.Refusal.{Refusal as Reason}
 use Rattle.node.specs.Book.{Note}
 use Rattle.node.specs.Giving.{note_of}
 use Rattle.node.specs.Handled.{HandledBy}
-use Rattle.node.specs.Hearing.{Handled, by_frame, handled, notes_for, refused_by, unless_refused, untouched, words_give, words_leave}
+use Rattle.node.specs.Hearing.{Handled, by_frame, handled, notes_for, refused_by, unless_refused, unread, untouched, words_give, words_leave}
 use Rattle.node.specs.State.{whole_of}
 use Rattle.node.specs.Wires.{out_bytes}
 use Rattle.node.specs.declared.state.Node.{Node}
@@ -39,7 +38,7 @@ use Rattle.truth.proofs.Booked.{booked_none, booked_outs}
 use Rattle.truth.proofs.Lines.{just_refused, nothing_kept, notes_kept}
 use Rattle.truth.proofs.Outs.{over_answers}
 use Rattle.truth.proofs.Passes.{none_kept, passed_kept}
-use Rattle.truth.proofs.Turned.{fault_low, reason_low}
+use Rattle.truth.proofs.Turned.{unread_low, reason_low}
 use Rattle.truth.proofs.Worded.{all_words, known_by, notes_none}
 
 -- two lists are the same or not
@@ -108,7 +107,7 @@ module _ (s : Whole) (low : s.links.tick < 2 ^ 32) where
         (booked_outs outs (over_answers (Some e) (bundle_of p) after) (omega (arith, size, length-append (flat_map (note_of s) notes) (flat_map out_bytes outs)))) m.known
 
     frame_kept : (w : ℕ) (x : Result Told Fault) (q : Quota) (f : List ℕ) → ((t : Told) → x ≡ Ok t → InRange s.links.n t) → length (by_frame w x ts s q f).gives ≤ 2 ^ 16 → Keeps s (by_frame w x ts s q f).whole (by_frame w x ts s q f).gives
-    frame_kept w (Err e) q f r size = just_refused s (fault_number e) low (fault_low e)
+    frame_kept w (Err e) q f r size = just_refused s (unread e (teller w s.links)) low (unread_low e (teller w s.links))
     frame_kept w (Ok (a_hello h)) q f r size =
         let after = heard_hello w (greeting_of h) s in
         let t : after.links.tick ≡ s.links.tick = hello_ticks w (greeting_of h) s in

@@ -3,6 +3,7 @@ use Rattle.std.proofs.Common.{◌≡◌, ℕ, suc, ◌^◌, ◌<◌, ◌≤◌, 
 use Rattle.std.specs.List.{flat_map}
 use Rattle.octets.specs.declared.Fault.{Fault}
 use Rattle.octets.specs.Faults.{fault_number}
+use Rattle.node.specs.Hearing.{unread}
 use Rattle.messages.specs.Values.{at}
 use Rattle.messages.specs.declared.values.Settings.{Settings}
 use Rattle.model.specs.Box.{must_say, own_word, says_now}
@@ -45,6 +46,13 @@ pub fault_low : (e : Fault) → fault_number e < 2 ^ 8
 fault_low Form = omega arith
 fault_low Range = omega arith
 fault_low Count = omega arith
+
+-- and so is that of a frame that is read as one
+pub unread_low : (e : Fault) (from : Option ℕ) → unread e from < 2 ^ 8
+unread_low Form from = fault_low Form
+unread_low Range from = fault_low Range
+unread_low Count (Some e) = fault_low Count
+unread_low Count None = omega arith
 
 -- a box that was just switched on has no word, and didn't tick
 abbrev Blank : Whole → Type 0

@@ -9,5 +9,5 @@ use Rattle.net.proofs.rest.alike.Goals as goal
 
 pub returns : goal.returns
 returns c =
-    all_from_yields_List (λ i. same_word ((box_of c.args.one).word i) ((box_of c.args.other).word i)) _ _ c.all.result c.all.ensures.ran (YieldsList-from_range 0 c.args.n c.args.n refl (omega arith)) (λ i b q k. search (rules, tests))
-    ∙ all_listed c.args.n (λ i. same_word ((box_of c.args.one).word i) ((box_of c.args.other).word i))
+    all_from_yields_List (λ i. same_word ((box_of c.args.one.now).word i) ((box_of c.args.other.now).word i)) _ _ c.all.result c.all.ensures.ran (YieldsList-from_range 0 c.args.n c.args.n refl (omega arith)) (λ i b q k. search (rules, tests))
+    ∙ all_listed c.args.n (λ i. same_word ((box_of c.args.one.now).word i) ((box_of c.args.other.now).word i))

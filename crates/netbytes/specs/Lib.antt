@@ -1,0 +1,4 @@
+pub mod Arriving
+pub mod Trips
+pub mod Playing
+pub mod Places

@@ -1,0 +1,5 @@
+pub mod Net
+pub mod Standing
+pub mod Fits
+pub mod Windows
+pub mod Quiet

@@ -1,0 +1,3 @@
+pub mod AsPassed
+pub mod AsTrip
+pub mod Nearer
