@@ -30,11 +30,11 @@ use Rattle.netbytes.proofs.OneHop.{packet_bytes, passed_nowhere}
 use Rattle.netbytes.proofs.OnTheWay.{Ready, errand_at, rides}
 
 -- the boxes of a net that stands after some events are those of the world after them
-like_at : (n : ℕ) (x : Net) (es : List Ev) → StandsFor n x es → (a : ℕ) → a < n → Like n a (world n es) (x.at a).box
+pub like_at : (n : ℕ) (x : Net) (es : List Ev) → StandsFor n x es → (a : ℕ) → a < n → Like n a (world n es) (x.at a).box
 like_at n x es s a l = like_of n a (x.at a).box es (s.boxes a l)
 
 -- so its real roads have the distances that they have there
-far_alike : (n : ℕ) (x : Net) (es : List Ev) → StandsFor n x es → (d u : ℕ) → u < n → far (real_map (world_in n x)) d u ≡ far (real_map (world n es)) d u
+pub far_alike : (n : ℕ) (x : Net) (es : List Ev) → StandsFor n x es → (d u : ℕ) → u < n → far (real_map (world_in n x)) d u ≡ far (real_map (world n es)) d u
 far_alike n x es s d u l =
     far_same (real_map (world_in n x)) (real_map (world n es)) (λ a. true) (record {
       size = sym (world_n n es);
@@ -43,7 +43,7 @@ far_alike n x es s d u l =
     }) d u tt (omega (arith, world_n n es))
 
 -- every run is ready for packets
-ready : (n : ℕ) (first : ℕ → ℕ) (ms : List Move) → Start n first → Carries n (net n first ms) → Ready n (net n first ms)
+pub ready : (n : ℕ) (first : ℕ → ℕ) (ms : List Move) → Start n first → Carries n (net n first ms) → Ready n (net n first ms)
 ready n first ms s c = record {
   few = leb-true n 64 s.few;
   count = λ a l. (placed n first ms a s).count;

@@ -49,10 +49,10 @@ riding_on n d k u p q r ne l =
     on : (w a i x : Bool) → w ≡ true → a ≡ true → i ≡ false → x ≡ false → cond w (cond a (cond i (Ok (at_home u q)) (cond x (Err Expired) (Ok (Onward (box_to q))))) (Err Address)) (Err Malformed) ≡ Ok (Onward (box_to q))
     on w a i x e f g h = rw (e, f, g, h) refl
 
--- so it sets out
-pub riding_out : (n d : ℕ) (p : List ℕ) → GoesTo n d p → Bytes p → Riding n d 0 p p
-riding_out n d p g b =
-    let h = from (is_whole p) (has_addresses n p) (eqb (box_to p) d) (is_echo d p) (ltb (ttl_of p) 2) (g d ∙ ap (λ x. Ok (cond x HandOut (Onward d))) (eq-eqb d d refl)) in
+-- so what d would hand out sets out
+pub riding_from : (n d : ℕ) (p : List ℕ) → errand_of n d p ≡ Ok HandOut → Bytes p → Riding n d 0 p p
+riding_from n d p g b =
+    let h = from (is_whole p) (has_addresses n p) (eqb (box_to p) d) (is_echo d p) (ltb (ttl_of p) 2) g in
     record {
       bytes = b;
       whole = h.0;
@@ -69,6 +69,10 @@ riding_out n d p g b =
     from true true false e false h = let z : ◌≡◌ {A = ℕ} 0 1 = cc in absurd (omega arith)
     from true false i e x h = let z : ◌≡◌ {A = ℕ} 0 1 = cc in absurd (omega arith)
     from false a i e x h = let z : ◌≡◌ {A = ℕ} 0 1 = cc in absurd (omega arith)
+
+-- and what goes to d
+pub riding_out : (n d : ℕ) (p : List ℕ) → GoesTo n d p → Bytes p → Riding n d 0 p p
+riding_out n d p g b = riding_from n d p (g d ∙ ap (λ x. Ok (cond x HandOut (Onward d))) (eq-eqb d d refl)) b
 
 -- what falls is in bytes 8, 10 and 11
 fallen_other : (p : List ℕ) (i : ℕ) → (i ≡ 8 → ⊥) → (i ≡ 10 → ⊥) → (i ≡ 11 → ⊥) → get_or (fallen p) i 0 ≡ get_or p i 0

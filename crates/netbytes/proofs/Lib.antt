@@ -11,6 +11,7 @@ pub mod HandedOn
 pub mod OneHop
 pub mod OnTheWay
 pub mod Delivered
+pub mod Hops
 pub mod Moved
 pub mod Comes
 pub mod Fresh

@@ -1,21 +1,24 @@
--- Where a packet goes in a net of boxes on wires, in bytes. A proof of BytesDeliver is the theorem. Assumes nothing.
-use Rattle.std.specs.Prelude.{◌≡◌, ℕ, zero, suc, ◌+◌, ◌<◌, ◌≤◌, true, cond, T, List, [], length, take, Some, None, Option, ◌==◌, ◌≢◌, slice_index}
+-- Where a packet goes in a net of boxes on wires, in bytes. Proofs of BytesDeliver and HopDelivers are the theorems. Assumes nothing.
+use Rattle.std.specs.Prelude.{◌≡◌, ℕ, zero, suc, ◌+◌, ◌<◌, ◌≤◌, true, cond, T, List, [], length, take, Some, None, Ok, Option, Bool, false, nat_lt, ◌==◌, ◌≢◌, slice_index}
 use Rattle.checksum.specs.Bytes.{Bytes}
 use Rattle.checksum.specs.Internet.{header_fits}
 use Rattle.linkmodel.specs.Links.{wires, opens_to}
 use Rattle.linkmodel.specs.Station.{Station as Whole}
 use Rattle.model.specs.Forward.{real_map}
-use Rattle.model.specs.Map.{Never, At, far}
+use Rattle.linkmodel.specs.Telling.{how_many}
+use Rattle.model.specs.Map.{Map, Far, Never, At, far}
 use Rattle.model.specs.Promise.{Rest}
 use Rattle.netmodel.specs.Net.{Plug, Net, Move, net, Start, all_counted}
 use Rattle.netmodel.specs.Standing.{world_in}
-use Rattle.node.specs.Passing.{packet_in, passed, refused_as, trouble_of}
+use Rattle.node.specs.Passing.{Passed, packet_in, passed, refused_as, sent_to, trouble_of}
 use Rattle.node.specs.declared.refusals.Refusal.TheVariants.{NoWay}
 use Rattle.outbox.specs.declared.reading.Port.{Port}
 use Rattle.outbox.specs.declared.reading.Port.TheVariants.{House, Wire, Book}
+use Rattle.packets.specs.Errands.{errand_of}
 use Rattle.packets.specs.Packet.{ttl_of}
 use Rattle.packets.specs.Travels.{GoesTo}
 use Rattle.packets.specs.declared.error_quota.Quota.{Quota}
+use Rattle.packets.specs.declared.values.Errand.TheVariants.{HandOut}
 
 -- how a packet ended: it came out to a house of this box; this box refused it; this box put it on a wire that isn't joined, or that has no cost at its other end; or it went on for too long
 pub data Ending : Type 0 where
@@ -88,3 +91,40 @@ BytesDeliver =
     (q : ℕ → Quota) (m u d : ℕ) (f : List ℕ) → n ≤ m → u < n → d < n → ForHouse n d f →
     ((c : ℕ) → far (real_map (world_in n (net n first ms))) d u ≡ At c → ComesOut n d c (packet_in f) (trip m (field (net n first ms) q) u f 0 0))
     × (far (real_map (world_in n (net n first ms))) d u ≡ Never → passed ((net n first ms).at u) (q u) f ≡ trouble_of (refused_as NoWay ((net n first ms).at u) (q u) (packet_in f)) f)
+
+-- the packet in a frame is one that box d hands out to a house
+abbrev pub IsFor : ℕ → ℕ → List ℕ → Type 0
+IsFor n d f = Bytes (packet_in f) × (errand_of n d (packet_in f) ≡ Ok HandOut)
+
+-- a distance is less than c
+abbrev pub is_less : Far → ℕ → Bool
+is_less Never c = false
+is_less (At k) c = nat_lt k c
+
+-- a box is nearer to d than c
+abbrev pub is_nearer : Map → ℕ → ℕ → ℕ → Bool
+is_nearer z d c a = is_less (far z d a) c
+
+-- the packet goes on over a wire that is there, to a box that is nearer by just what the wire costs, so that fewer are nearer still; one less to live, and else as it was
+pub record GoesNearer (n d c : ℕ) (x : Net) (u : ℕ) (f : List ℕ) (p : Passed) : Type 0 where
+  pub wire : ℕ
+  pub plug : Plug
+  pub left : ℕ
+  pub goes : p.goes ≡ Some (Wire wire)
+  pub joined : x.joined u wire ≡ Some plug
+  pub inside : plug.at < n
+  pub carries : 0 < (x.at plug.at).links.cost plug.on
+  pub far_left : far (real_map (world_in n x)) d plug.at ≡ At left
+  pub cost : left + (x.at u).links.cost wire ≡ c
+  pub paid : 0 < (x.at u).links.cost wire
+  pub fewer : how_many (is_nearer (real_map (world_in n x)) d left) n < how_many (is_nearer (real_map (world_in n x)) d c) n
+  pub still : IsFor n d p.frame
+  pub is : After 1 (packet_in f) (packet_in p.frame)
+
+-- At any moment of rest a packet to whose box a way leads is handed out there, and from any other box it goes on nearer to it, as long as it lives.
+abbrev pub HopDelivers : Type 0
+HopDelivers =
+    (n : ℕ) (first : ℕ → ℕ) (ms : List Move) → Start n first → T (all_counted n first ms []) → Rest (world_in n (net n first ms)) → Carries n (net n first ms) →
+    (q : Quota) (u d c : ℕ) (f : List ℕ) → u < n → d < n → IsFor n d f → far (real_map (world_in n (net n first ms))) d u ≡ At c →
+    (u ≡ d → passed ((net n first ms).at u) q f ≡ sent_to House f q)
+    × ((u ≢ d) → 2 ≤ ttl_of (packet_in f) → GoesNearer n d c (net n first ms) u f (passed ((net n first ms).at u) q f))

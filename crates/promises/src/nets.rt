@@ -1,6 +1,6 @@
 // The theorems about nets of whole boxes on wires that are laid and taken away: each run is a run of the model, what shown means, and how a net comes to rest.
 ghost use Rattle.netbytes.specs.Arriving.{FramesArrive};
-ghost use Rattle.netbytes.specs.Trips.{BytesDeliver};
+ghost use Rattle.netbytes.specs.Trips.{BytesDeliver, HopDelivers};
 ghost use Rattle.netmodel.specs.Fits.{FramesFit};
 ghost use Rattle.netmodel.specs.Quiet.{QuietNet, ShownStays};
 ghost use Rattle.netmodel.specs.Standing.{FewWords, RestIs, ShownMeans, Simulates, SimulatesOn, WiresJoin};
@@ -29,8 +29,9 @@ pub fn rest_on_wires()
     ensures possible { CanWindow }
 {}
 
-// In bytes: those of a frame that is sent are read by any box as that frame and do what it does; and at rest those of a packet come out at a house of the box that it is for, over a way than which none is cheaper, in fewer steps than there are boxes, changed by its time to live and header sum alone, or it is refused where it was sent.
+// In bytes: those of a frame that is sent are read by any box as that frame and do what it does; and at rest those of a packet come out at a house of the box that it is for, over a way than which none is cheaper, in fewer steps than there are boxes, changed by its time to live and header sum alone, or it is refused where it was sent. At any moment of rest each box hands out what is for its houses, and sends what is for another's, while it lives, to a box that is nearer by what the wire costs.
 pub fn bytes_on_wires()
     ensures frames { FramesArrive }
     ensures packets { BytesDeliver }
+    ensures hop { HopDelivers }
 {}
