@@ -99,7 +99,7 @@ unfoldable pub small_costs : (ℕ → ℕ) → ℕ → Bool
 small_costs c zero = true
 small_costs c (suc k) = small_costs c k && nat_lt (c k) (2 ^ 16)
 
--- a wire is joined to nothing, and the box has heard nobody on it for more than 40 ticks, or has no cost for it
+-- a wire is joined to nothing, and the box knows of nobody on it: it heard nobody there for more than 40 ticks, has no cost for it, or fell since
 abbrev pub is_free : Option Plug → Wire → Bool
 is_free None Silent = true
 is_free None (Heard f d t) = false
