@@ -6,8 +6,9 @@ use Rattle.frames.specs.declared.values.Line.{Line}
 use Rattle.frames.specs.Reading.{line_in}
 use Rattle.frames.specs.Writing.{bytes_of_line}
 use Rattle.frames.proofs.Lines.{line_again_lem}
-use Rattle.journal.specs.Laws.{Grows, Stops, GrowsByAll, Enough}
-use Rattle.journal.specs.Replay.{Known, Replayed, noted, up_to, whole, by_line, replay, replayed}
+use Rattle.journal.specs.Laws.{Grows, Stops, GrowsByAll, Enough, InTurn, noted_all}
+use Rattle.frames.specs.Ranges.{LineInRange}
+use Rattle.journal.specs.Replay.{Known, Replayed, nothing, noted, up_to, whole, by_line, replay, replayed}
 use Rattle.journal.proofs.Local.{line_local}
 
 -- one line after the other
@@ -117,3 +118,16 @@ grows_by_all_lem until bytes k [] h r = ap (replay until) (append-nil bytes) ∙
 grows_by_all_lem until bytes k (l ∷ ls) h r =
     ap (replay until) (sym (append_assoc bytes (bytes_of_line l) (flat_map bytes_of_line ls)))
     ∙ grows_by_all_lem until (bytes ++ bytes_of_line l) (noted l.what k) ls (grows until bytes k l h r.0 r.1) r.2
+
+-- a journal that has just these lines
+pub replay_lines : (until : ℕ) (ls : List Line) → InTurn until ls nothing → replay until (flat_map bytes_of_line ls) ≡ whole (noted_all ls nothing)
+replay_lines until ls r = grows_by_all_lem until [] nothing ls (replayed_none until 0 nothing) r
+
+-- and then one of a later tick, and whatever comes after it
+pub replay_lines_until : (until : ℕ) (ls : List Line) (l : Line) (more : List ℕ) → InTurn until ls nothing → LineInRange (noted_all ls nothing).n l → until < l.tick
+    → replay until (flat_map bytes_of_line ls ++ (bytes_of_line l ++ more)) ≡ up_to (bytes_of_line l ++ more) (noted_all ls nothing)
+replay_lines_until until ls l more r g t = stops until (flat_map bytes_of_line ls) (noted_all ls nothing) l (replay_lines until ls r) g t more
+
+pub noted_all_append : (xs ys : List Line) (k : Known) → noted_all (xs ++ ys) k ≡ noted_all ys (noted_all xs k)
+noted_all_append [] ys k = refl
+noted_all_append (x ∷ xs) ys k = noted_all_append xs ys (noted x.what k)

@@ -1,5 +1,5 @@
 -- What came over a wire, put together.
-use Rattle.std.proofs.Common.{◌≡◌, ℕ, zero, suc, ◌≤◌, List, [], ◌++◌, length, get_or, take, Some, None, Ok, Err, Option, Result, sym, refl, ap, ◌∙◌, subst, ap₂, append_assoc, arith, length-append}
+use Rattle.std.proofs.Common.{◌≡◌, ℕ, zero, suc, ◌≤◌, List, [], ◌++◌, length, get_or, take, Some, None, Ok, Option, Result, sym, refl, ap, ◌∙◌, subst, ap₂, append_assoc, arith, length-append}
 use Rattle.std.specs.List.{flat_map}
 use Rattle.octets.specs.declared.Fault.{Fault}
 use Rattle.checksum.specs.Crc.{SumFits, sum_bytes}
@@ -10,8 +10,7 @@ use Rattle.outbox.specs.Parcels.{contents}
 use Rattle.outbox.specs.declared.reading.Port.{Port}
 use Rattle.outbox.specs.declared.state.Outbox.{Outbox}
 use Rattle.packets.specs.declared.error_quota.Quota.{Quota}
-use Rattle.frames.specs.Reading.{Told, told_by}
-use Rattle.frames.specs.declared.values.Frame.{Frame}
+use Rattle.frames.specs.Reading.{Told, frame_in}
 use Rattle.station.specs.Events.{Did}
 use Rattle.station.specs.Hearing.{answers_from}
 use Rattle.station.specs.State.{station_of}
@@ -21,7 +20,7 @@ use Rattle.station.specs.declared.state.Station.{Station}
 use Rattle.node.specs.declared.refusals.Refusal.{Refusal}
 use Rattle.node.specs.declared.state.Node.{Node}
 use Rattle.node.specs.Giving.{note_of}
-use Rattle.node.specs.Handled.{HandledBy, PassedBy, ReadAs, RefusedAs}
+use Rattle.node.specs.Handled.{HandledBy, PassedBy, RefusedAs}
 use Rattle.node.specs.Hearing.{FrameDid, Handled, by_frame, note_for, notes_for, passed_as, refused_by, unless_refused}
 use Rattle.node.specs.Passing.{Passed}
 use Rattle.node.specs.Refusals.{number_of}
@@ -52,10 +51,9 @@ fits_long f h = omega (arith, ap length h.1, length-append h.0 (sum_bytes h.0))
 pub empty_lem : (o : Outbox) → o.used ≡ 0 → contents o ≡ []
 empty_lem o e = ap (λ k. take k o.bytes) e
 
--- what a frame was read as
-pub read_lem : (from : Option ℕ) (x : Result Told Fault) (f : Frame) → ReadAs from x (Ok f) → x ≡ Ok (told_by f)
-read_lem from (Ok t) f h = ap (λ (y : Told). Ok y) h
-read_lem from (Err e) f h = absurd h
+-- what a frame was read as, by a number of boxes that is the box's
+pub read_lem : {n m : ℕ} {x : Result Told Fault} (bytes : List ℕ) → n ≡ m → frame_in n bytes ≡ x → frame_in m bytes ≡ x
+read_lem bytes e h = ap (λ k. frame_in k bytes) (sym e) ∙ h
 
 -- a frame that isn't refused
 pub heard_lem : (w : ℕ) (ts : List ℕ) (s : Whole) (q : Quota) (f new : List ℕ) (x : Result Told Fault) (t : Told) (o : Option Reason) (h : Handled) (after : Node) →

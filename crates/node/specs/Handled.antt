@@ -1,8 +1,5 @@
 -- That the running box did what is defined for it. Assumes nothing.
 use Rattle.std.specs.Prelude.{◌≡◌, ℕ, List, ◌++◌, Some, None, Ok, Err, Option, Result}
-use Rattle.octets.specs.declared.Fault.{Fault}
-use Rattle.frames.specs.Reading.{Told, told_by}
-use Rattle.frames.specs.declared.values.Frame.{Frame}
 use Rattle.linkmodel.specs.Station.{Station as Whole}
 use Rattle.outbox.specs.Parcels.{contents}
 use Rattle.outbox.specs.declared.reading.Port.{Port}
@@ -11,7 +8,7 @@ use Rattle.station.specs.State.{refusal_number}
 use Rattle.station.specs.declared.answers.Refusal.{Refusal as Reason}
 use Rattle.node.specs.declared.refusals.Refusal.{Refusal}
 use Rattle.node.specs.declared.state.Node.{Node}
-use Rattle.node.specs.Hearing.{Handled, refused_by, unread}
+use Rattle.node.specs.Hearing.{Handled, refused_by}
 use Rattle.node.specs.Passing.{Passed}
 use Rattle.node.specs.Refusals.{number_of}
 use Rattle.node.specs.State.{whole_of}
@@ -44,13 +41,6 @@ pub record HeardNot (h : Handled) (r : Refusal) (before after : Node) (old new :
   pub node : after ≡ before
   pub out : new ≡ old
   pub frame : left ≡ was
-
--- what a frame of this box was read as, or why it wasn't
-abbrev pub ReadAs : Option ℕ → Result Told Fault → Result Frame Refusal → Type 0
-ReadAs from (Ok t) (Ok f) = t ≡ told_by f
-ReadAs from (Err e) (Err r) = number_of r ≡ unread e from
-ReadAs from (Ok t) (Err r) = ⊥
-ReadAs from (Err e) (Ok f) = ⊥
 
 -- there is a reason, and it goes by this number
 abbrev pub RefusedAs : Option Reason → Refusal → Type 0

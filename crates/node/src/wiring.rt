@@ -1,10 +1,9 @@
 // What comes over a wire, and from a house.
-ghost use Rattle.std.specs.Prelude.{◌≡◌, ◌<◌, ◌≤◌, [], Ok, Err, IfOk};
+ghost use Rattle.std.specs.Prelude.{◌≡◌, ◌<◌, [], Ok};
 ghost use Rattle.checksum.specs.Crc.{SumFits};
 ghost use Rattle.checksum.specs.Refused.{body_of};
-ghost use Rattle.frames.specs.Ranges.{InRange};
-ghost use Rattle.frames.specs.Reading.{Told, a_hello, frame_in, some_seen, some_words, told_by};
-ghost use Rattle.node.specs.Handled.{GivesSo, HandledBy, HeardBy, HeardSo, PassedBy, ReadAs};
+ghost use Rattle.frames.specs.Reading.{Told, a_hello, frame_in, some_seen, some_words};
+ghost use Rattle.node.specs.Handled.{GivesSo, HandledBy, HeardBy, HeardSo, PassedBy};
 ghost use Rattle.node.specs.Hearing.{Counted, FrameDid, by_frame, refused_by, unread, untouched, words_give, words_leave};
 ghost use Rattle.node.specs.Passing.{passed};
 ghost use Rattle.node.specs.Refusals.{number_of};
@@ -72,22 +71,6 @@ impl Node {
         }
     }
 
-    // What a frame says that came over a wire, where its sum is right.
-    fn read<'a>(&self, wire: u8, frame: &'a [u8]) -> Result<Frame<'a>, Refusal>
-        ensures unfit { (SumFits frame.now → ⊥) → result ≡ Err Refusal.Form }
-        ensures read { SumFits frame.now → ReadAs (teller wire (whole_of self.now).links) (frame_in (whole_of self.now).links.n (body_of frame.now)) result }
-        ensures range { IfOk result (λ f. InRange (whole_of self.now).links.n (told_by f)) }
-    {
-        if !checksum::crc::sum_fits(frame) {
-            return Err(Refusal::Form);
-        }
-        let end = frame.len() - 4;
-        match frames::read_frame(&frame[..end], self.station.links().boxes()) {
-            Ok(frame) => Ok(frame),
-            Err(fault) => Err(self.unread(wire, fault)),
-        }
-    }
-
     // What a frame does that comes over a wire; or why it is refused, and nothing changes.
     fn hears(
         &mut self,
@@ -101,11 +84,16 @@ impl Node {
         ensures read { SumFits frame.old → HeardBy (by_frame wire (frame_in (whole_of self.old).links.n (body_of frame.old)) tags (whole_of self.old) self.old.quota frame.old) result self.old self.new out.old out.new frame.old frame.new }
         ensures so { SumFits frame.old → (t : Told) → frame_in (whole_of self.old).links.n (body_of frame.old) ≡ Ok t → FrameDid wire t tags (whole_of self.old) (whole_of self.new) }
     {
-        match self.read(wire, frame)? {
-            Frame::Hello(hello) => self.hello(wire, hello)?,
-            Frame::Words(words) => self.words(wire, words, tags, out)?,
-            Frame::Seen(seens) => self.seens(wire, seens)?,
-            Frame::Packet(_) => return Ok(self.pass(frame, out)),
+        if !checksum::crc::sum_fits(frame) {
+            return Err(Refusal::Form);
+        }
+        let end = frame.len() - 4;
+        match frames::read_frame(&frame[..end], self.station.links().boxes()) {
+            Ok(Frame::Hello(hello)) => self.hello(wire, hello)?,
+            Ok(Frame::Words(words)) => self.words(wire, words, tags, out)?,
+            Ok(Frame::Seen(seens)) => self.seens(wire, seens)?,
+            Ok(Frame::Packet(_)) => return Ok(self.pass(frame, out)),
+            Err(fault) => return Err(self.unread(wire, fault)),
         }
         Ok(None)
     }

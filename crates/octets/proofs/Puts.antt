@@ -1,12 +1,15 @@
 -- Laws of bytes put into a list.
-use Rattle.std.proofs.Common.{◌≡◌, ℕ, zero, suc, ◌+◌, ◌-◌, ◌/◌, ◌%◌, ◌<◌, ◌≤◌, List, [], ◌∷◌, ◌++◌, length, take, drop, set, sym, refl, ap, ◌∙◌, subst, append_assoc, add-zero, add_assoc, add-one, arith, length-append, length-take}
+use Rattle.std.proofs.Common.{◌≡◌, ℕ, zero, suc, ◌+◌, ◌-◌, ◌/◌, ◌%◌, ◌<◌, ◌≤◌, List, [], ◌∷◌, ◌++◌, length, take, drop, set, sym, refl, ap, ◌∙◌, subst, append_assoc, add-zero, add_assoc, add-one, arith, length-append, length-drop, length-take}
 use Rattle.std.proofs.lemmas.List.{take-append-drop, take_at, drop_at, drop-drop, take-set-le, drop-set, set_split}
-use borrow.Rule.Slice.PartMut.{put_mid}
 use Rattle.octets.specs.Writes.{octets, put}
 
 pub put_none : (at : ℕ) (old : List ℕ) → put at [] old ≡ old
 unfolding put
 put_none at old = rw (add-zero, take-append-drop)
+
+pub length_put : (at : ℕ) (new old : List ℕ) → at + length new ≤ length old → length (put at new old) ≡ length old
+unfolding put
+length_put at new old h = simp (length-append, length-take, length-drop) (omega arith)
 
 -- bytes put after bytes are their join put at once
 pub put_put : (at next : ℕ) (a b old : List ℕ) → next ≡ at + length a → next ≤ length old → put next b (put at a old) ≡ put at (a ++ b) old
@@ -57,11 +60,6 @@ put_last at (suc k) x old z h =
 pub put_one : (at : ℕ) (old : List ℕ) (b : ℕ) → at < length old → set old at b ≡ put at (b ∷ []) old
 unfolding put
 put_one at old b h = rw add-one (set_split old at b h)
-
--- bytes copied into a part of a list
-pub put_part : (at k : ℕ) (new old : List ℕ) → k ≡ length new → put_mid at k old new ≡ put at new old
-unfolding put
-put_part at k new old n = ap (λ z. take at old ++ (new ++ z)) (drop-drop k at old ∙ ap (λ m. drop (at + m) old) n)
 
 -- what was written so far from a place on, and the place after it
 pub record Written (from : ℕ) (bytes old new : List ℕ) (next : ℕ) : Type 0 where

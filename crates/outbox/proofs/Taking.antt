@@ -1,7 +1,7 @@
 -- What stands in the buffer where a parcel was put.
 use Rattle.std.proofs.Common.{◌≡◌, ℕ, ◌+◌, ◌-◌, ◌*◌, ◌/◌, ◌%◌, ◌^◌, ◌<◌, ◌≤◌, cond, eqb, List, ◌∷◌, ◌++◌, length, get_or, take, drop, Some, None, sym, refl, ap, ◌∙◌, ap₂, append_assoc, arith, length-append, length-drop, length-take}
 use Rattle.std.proofs.lemmas.List.{take-append-drop, take_at, drop_at, drop-drop, drop_more, drop-take, take-take, get_or_at, get_or-take, get_or-append-add}
-use Rattle.std.proofs.lemmas.Bool.{cond_both, eqb-true}
+use Rattle.std.proofs.lemmas.Bool.{cond_both, cond-false, eqb-true, ne_eqb}
 use Rattle.octets.specs.Writes.{octets}
 use Rattle.octets.proofs.Puts.{length_octets}
 use Rattle.outbox.specs.declared.reading.Parcel.{Parcel}
@@ -14,6 +14,10 @@ pub number_port : (k : ℕ) → port_number (port_at k) ≡ k
 number_port k =
     cond_both (eqb k 8) House (cond (eqb k 9) Book (Wire k)) (λ p. port_number p ≡ k) (λ e. sym (eqb-true k 8 e))
     (λ _. cond_both (eqb k 9) Book (Wire k) (λ p. port_number p ≡ k) (λ e. sym (eqb-true k 9 e)) (λ _. refl))
+
+-- and goes by that number alone, if it is a wire among the first eight
+pub port_wire : (w : ℕ) → w < 8 → port_at w ≡ Wire w
+port_wire w h = cond-false (eqb w 8) House (cond (eqb w 9) Book (Wire w)) (ne_eqb w 8 (λ e. omega arith)) ∙ cond-false (eqb w 9) Book (Wire w) (ne_eqb w 9 (λ e. omega arith))
 
 pub length_parcel : (port : ℕ) (bytes : List ℕ) → length (parcel_bytes port bytes) ≡ length bytes + 3
 length_parcel port bytes = omega (arith, length-append (octets 2 (length bytes)) bytes, length_octets 2 (length bytes))

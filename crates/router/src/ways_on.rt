@@ -20,6 +20,9 @@ impl Router {
         ensures inside { to < self.n → hop_of result ≡ hop_in to (box_of self) }
         ensures beyond { self.n ≤ to → result ≡ None }
     {
+        if to >= self.n {
+            return None;
+        }
         self.table().next(to)
     }
 }

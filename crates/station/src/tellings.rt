@@ -44,7 +44,7 @@ fn is_lowest(links: Links, to: u8, wire: u8) -> bool
 
 impl Station {
     // The words that it tells a neighbour.
-    fn telling_to(&self, to: u8) -> Words
+    pub(crate) fn telling_to(&self, to: u8) -> Words
         ensures { Carries result (station_of self.now).links.drawn (items_of (tells to (station_of self.now).box) (station_of self.now).box) }
     {
         let picked = telling::tells(self.router, to);

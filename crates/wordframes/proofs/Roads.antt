@@ -1,8 +1,5 @@
 -- The roads among the costs to each box: one box more, and how many there are.
-use Rattle.std.proofs.Common.{◌≡◌, ℕ, zero, suc, ◌+◌, ◌*◌, ◌<◌, ◌≤◌, List, [], ◌∷◌, ◌++◌, length, get_or, set, take, replicate, true, false, not, eqb, Ok, Err, sym, refl, ap, ◌∙◌, subst, ⊎_elim, append-nil, add-one, arith, length-append}
-use Rattle.std.specs.List.{count_by}
-use Rattle.std.proofs.lemmas.List.{take_all}
-use Rattle.std.proofs.lemmas.List.Sums.{count_by_more_no, count_by_more_yes}
+use Rattle.std.proofs.Common.{◌≡◌, ℕ, zero, suc, ◌+◌, ◌*◌, ◌<◌, ◌≤◌, List, [], ◌∷◌, ◌++◌, length, get_or, set, replicate, Ok, Err, ap, ⊎_elim, append-nil, add-one, arith, length-append}
 use Rattle.std.proofs.lemmas.Bool.{eq-eqb, ne_eqb, cases_eq, cases_lt}
 use Rattle.octets.specs.declared.Fault.{Fault}
 use Rattle.octets.specs.Reads.{times}
@@ -47,23 +44,6 @@ roads_mono costs i (suc k) h =
     (λ (q : k < i). let e : i ≡ suc k = omega arith in rw e (omega arith))
     (λ (q : i ≤ k). let ih = roads_mono costs i k (omega arith) in let s = rw add-one at (roads_step costs k) in omega (arith, s.0))
     (cases_lt k i)
-
--- as many as there are costs other than 0
-counted_to : (costs : List ℕ) (i : ℕ) → i ≤ length costs → count_by (λ x. not (eqb x 0)) (take i costs) ≡ length (roads_to costs i)
-unfolding roads_to
-counted_to costs zero h = refl
-counted_to costs (suc i) h =
-    let e : i + 1 ≡ suc i = omega arith in
-    subst (λ k. count_by (λ x. not (eqb x 0)) (take k costs) ≡ length (roads_to costs k)) e
-    (⊎_elim
-    (λ e. let t : not (eqb (get_or costs i 0) 0) ≡ false = rw (eq-eqb (get_or costs i 0) 0 e) refl in
-    count_by_more_no (λ x. not (eqb x 0)) costs i 0 (omega arith) t ∙ (counted_to costs i (omega arith) ∙ ap length (sym (roads_skip costs i e))))
-    (λ e. let t : not (eqb (get_or costs i 0) 0) ≡ true = rw (ne_eqb (get_or costs i 0) 0 e) refl in
-    count_by_more_yes (λ x. not (eqb x 0)) costs i 0 (omega arith) t ∙ (ap (λ n. n + 1) (counted_to costs i (omega arith)) ∙ (sym (length-append (roads_to costs i) _) ∙ ap length (sym (roads_take costs i e)))))
-    (cases_eq (get_or costs i 0) 0))
-
-pub roads_counted : (costs : List ℕ) → length costs ≡ 64 → count_by (λ x. not (eqb x 0)) costs ≡ length (roads_to costs 64)
-roads_counted costs h = ap (λ xs. count_by (λ x. not (eqb x 0)) xs) (sym (take_all 64 costs (omega arith))) ∙ counted_to costs 64 (omega arith)
 
 pub length_road : (r : ℕ × ℕ) → length (bytes_of_road r) ≡ 3
 length_road r = ap suc (length_octets 2 r.1)

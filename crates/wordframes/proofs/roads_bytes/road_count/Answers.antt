@@ -1,7 +1,19 @@
-use Rattle.std.proofs.Common.{◌≡◌, not, eqb, ◌∙◌, rules}
-use Rattle.std.specs.List.{count_by}
-use Rattle.wordframes.proofs.Roads.{roads_counted}
+use Rattle.std.proofs.Common.{refl, arith, length-append}
+use Rattle.wordframes.specs.Writing.{roads_to}
+use Rattle.wordframes.proofs.Roads.{roads_few, roads_skip, roads_take}
 use Rattle.wordframes.proofs.roads_bytes.road_count.Goals as goal
+use Rattle.wordframes.proofs.roads_bytes.road_count.Goals.{then-costs-i-ne0, else-costs-i-ne0}
 
-pub returns : goal.returns
-returns c = let e : c.count.result ≡ count_by (λ x. not (eqb x 0)) c.args.costs = search rules in e ∙ roads_counted c.args.costs (search rules)
+pub loop-i-init : goal.loop-i-init
+unfolding roads_to
+loop-i-init c = refl
+
+pub overflow_add-count : goal.overflow_add-count
+overflow_add-count c = omega (arith, c.loop-i.invariant, roads_few c.args.costs c.loop-i.i)
+
+pub loop-i-preserved : goal.loop-i-preserved
+loop-i-preserved c =
+    elim c.if-costs-i-ne0.branch [
+      | then-costs-i-ne0 w ↦ rw (roads_take c.args.costs c.loop-i.i w.if-costs-i-ne0.true, length-append) (omega (arith, w.count-is, c.loop-i.invariant))
+      | else-costs-i-ne0 w ↦ rw (roads_skip c.args.costs c.loop-i.i w.if-costs-i-ne0.false) (omega (arith, w.count-is, c.loop-i.invariant))
+    ]
