@@ -17,13 +17,17 @@ pub(crate) fn frame(n: u8, bytes: &[u8]) -> Result<Frame<'_>, Fault>
     read_frame(bytes, n)
 }
 
-// Reads a frame and writes it again: 0, or the number of the fault.
+// Reads a frame and writes it again: 0, or the number of the fault. More than 64 boxes are out of range.
+// Kept: the test of the number, which `frame` has too. Through `frame` a frame is moved once more, and four words take a tenth of the time again.
 #[unsafe(no_mangle)]
 pub extern "C" fn router_frame(n: u8, bytes: &[u8], out: &mut [u8]) -> u8
     ensures verdict { result ≡ frame_verdict n bytes.now }
     ensures wrote { out.new ≡ again (result == 0) bytes.now out.old }
 {
-    match frame(n, bytes) {
+    if n > 64 {
+        return u8::from(Fault::Range);
+    }
+    match read_frame(bytes, n) {
         Ok(frame) => {
             write_frame(frame, out);
             0
