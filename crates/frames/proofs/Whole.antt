@@ -18,9 +18,10 @@ use Rattle.messages.specs.declared.values.WordId.{WordId}
 use Rattle.messages.specs.Packets.{Seens}
 use Rattle.messages.specs.Packets.{Words}
 use Rattle.wordframes.specs.Ranges.{SeensInRange, WordsInRange, IdInRange, WordInRange}
-use Rattle.frames.specs.Ranges.{HelloInRange, SettingsInRange, InRange, bytes_of_frame}
+use Rattle.frames.specs.declared.values.Frame.{Frame}
+use Rattle.frames.specs.Ranges.{HelloInRange, SettingsInRange, InRange, OnlyFrame, bytes_of_frame}
 use Rattle.wordframes.specs.Reading.{blank_id, blank_word, id_in, low_count, low_word, seens_in, word_in, words_in}
-use Rattle.frames.specs.Reading.{Told, a_hello, some_words, some_seen, a_packet, boxes_in, frame_in, frame_of, hello_in, packet_in, settings_in, value_in, wires_in, wrong}
+use Rattle.frames.specs.Reading.{Told, a_hello, some_words, some_seen, a_packet, answer_by, boxes_in, frame_in, frame_of, hello_in, packet_in, settings_in, told_by, value_in, wires_in, wrong}
 use Rattle.wordframes.specs.Writing.{bytes_of_id, bytes_of_word}
 use Rattle.frames.specs.Writing.{bytes_of_hello, bytes_of_settings, bytes_of_wires}
 use Rattle.wordframes.proofs.Triples.{triple_written, triple_read}
@@ -143,6 +144,10 @@ module _ (n : ℕ) (few : n ≤ 64) where
       let r = byte_read bytes s.value s.left b s.was in
       let o = kind_only s.value s.left f v.0 r.bytes_left s.then in
       (r.is ∙ o.0, o.1)
+
+  pub answer_only : (bytes : List ℕ) (r : Result Frame Fault) → Bytes bytes → frame_in n bytes ≡ answer_by r → OnlyFrame n bytes r
+  answer_only bytes (Ok f) b h = frame_only bytes (told_by f) b h
+  answer_only bytes (Err e) b h = tt
 
 -- the costs of the wires
 wires_again : (costs rest : List ℕ) → length costs ≡ 8 → ((i : ℕ) → i < 8 → get_or costs i 0 < 2 ^ 16) → wires_in (bytes_of_wires costs ++ rest) ≡ Ok (costs, rest)

@@ -1,7 +1,7 @@
 // What the bytes on a wire are: the kind, and what follows it.
 ghost use Rattle.std.specs.Prelude.{◌≡◌, ℕ, ◌≤◌, ◌∷◌};
 ghost use Rattle.frames.specs.Ranges.{FrameAgain, OnlyFrame, bytes_of_frame};
-ghost use Rattle.frames.specs.Reading.{a_packet, answer_by, frame_in, some_seen, some_words, told_by};
+ghost use Rattle.frames.specs.Reading.{a_packet, answer_by, frame_in, frame_of, some_seen, some_words, told_by, value_in};
 ghost use Rattle.octets.specs.Writes.{Wrote};
 ghost use Rattle.wordframes.specs.Writing.{bytes_of_seens, bytes_of_words};
 
@@ -10,6 +10,17 @@ use crate::values::Frame;
 use messages::{Seens, Words};
 use octets::{Fault, Reader, put_byte, put_bytes};
 use wordframes::{put_seens, put_words, read_seens, read_words};
+
+// What follows the kind of a frame of words, to the end.
+// Not inlined: its four words would lie in the call that reads any frame, where a packet would pay for their room too.
+#[inline(never)]
+fn words_frame<'a>(reader: &mut Reader, n: u8) -> Result<Frame<'a>, Fault>
+    requires { n ≤ 64 }
+    ensures { value_in (frame_of n 2 reader.old.left.now) ≡ answer_by result }
+{
+    let words = read_words(reader, n)?;
+    Ok(Frame::Words(words))
+}
 
 // The frame that these bytes are, and nothing more, where there are `n` boxes.
 pub fn read_frame(bytes: &[u8], n: u8) -> Result<Frame, Fault>
@@ -25,10 +36,7 @@ pub fn read_frame(bytes: &[u8], n: u8) -> Result<Frame, Fault>
             reader.end()?;
             Ok(Frame::Hello(hello))
         }
-        2 => {
-            let words = read_words(&mut reader, n)?;
-            Ok(Frame::Words(words))
-        }
+        2 => words_frame(&mut reader, n),
         3 => {
             let seens = read_seens(&mut reader, n)?;
             Ok(Frame::Seen(seens))

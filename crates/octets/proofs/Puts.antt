@@ -1,6 +1,7 @@
 -- Laws of bytes put into a list.
-use Rattle.std.proofs.Common.{◌≡◌, ℕ, zero, suc, ◌+◌, ◌-◌, ◌/◌, ◌%◌, ◌<◌, ◌≤◌, List, [], ◌∷◌, ◌++◌, length, take, drop, set, sym, refl, ap, ◌∙◌, subst, append_assoc, add-zero, add_assoc, add-one, arith, length-append, length-drop, length-take}
-use Rattle.std.proofs.lemmas.List.{take-append-drop, take_at, drop_at, drop-drop, take-set-le, drop-set, set_split}
+use Rattle.std.proofs.Common.{◌≡◌, ℕ, zero, suc, ◌+◌, ◌-◌, ◌/◌, ◌%◌, ◌<◌, ◌≤◌, List, [], ◌∷◌, ◌++◌, Result, Ok, Err, IsOk, OnOk, OnErr, slice_index_or, length, take, drop, set, sym, refl, ap, ◌∙◌, subst, append_assoc, add-zero, add_assoc, add-one, arith, length-append, length-drop, length-take}
+use Rattle.std.proofs.lemmas.List.{ext_get_or, take-append-drop, take_at, drop_at, drop-drop, take-set-le, drop-set, set_split}
+use borrow.Rule.Slice.PartMut.{put_mid}
 use Rattle.octets.specs.Writes.{octets, put}
 
 pub put_none : (at : ℕ) (old : List ℕ) → put at [] old ≡ old
@@ -60,6 +61,25 @@ put_last at (suc k) x old z h =
 pub put_one : (at : ℕ) (old : List ℕ) (b : ℕ) → at < length old → set old at b ≡ put at (b ∷ []) old
 unfolding put
 put_one at old b h = rw add-one (set_split old at b h)
+
+-- where what an error would mean can't be, all went well
+pub sure : {T E P : Type 0} (r : Result T E) → OnErr r P → (P → ⊥) → IsOk r
+sure (Ok v) h n = refl
+sure (Err e) h n = absurd (n h)
+
+-- a list cloned over as many places is put there
+pub put_cloned : {T E : Type 0} {r : Result T E} {v : T} (at k : ℕ) (old new from : List ℕ) → k ≡ length from → at + k ≤ length old → length new ≡ length (take k (drop at old)) → r ≡ Ok v
+    → OnOk r ((i d : ℕ) → i < length (take k (drop at old)) → slice_index_or new i d ≡ slice_index_or from i d) → put_mid at k old new ≡ put at from old
+unfolding put
+put_cloned at k old new from n m l e w =
+    ap (λ z. take at old ++ (z ++ drop k (drop at old))) (ext_get_or 0 new from (l ∙ (long ∙ n)) (λ i q. same i 0 (omega (arith, l))))
+    ∙ ap (λ z. take at old ++ (from ++ z)) (drop-drop k at old ∙ ap (λ m. drop (at + m) old) n)
+  where
+    long : length (take k (drop at old)) ≡ k
+    long = simp (length-take, length-drop) (omega arith)
+
+    same : (i d : ℕ) → i < length (take k (drop at old)) → slice_index_or new i d ≡ slice_index_or from i d
+    same = subst (λ r. OnOk r ((i d : ℕ) → i < length (take k (drop at old)) → slice_index_or new i d ≡ slice_index_or from i d)) e w
 
 -- what was written so far from a place on, and the place after it
 pub record Written (from : ℕ) (bytes old new : List ℕ) (next : ℕ) : Type 0 where

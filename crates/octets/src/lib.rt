@@ -126,15 +126,13 @@ pub fn put_byte(out: &mut [u8], at: usize, b: u8) -> usize
 }
 
 // Writes the bytes from the place `at` on, and gives the place after them.
-// Kept: a loop that counts the place. `copy_from_slice` becomes a call of `memmove`, which the library of exports would then need from outside; it needs `memcpy` and `memset` alone.
+#[tactic(auto, using(crate::proofs::Puts::put_cloned))]
 pub fn put_bytes(out: &mut [u8], at: usize, bytes: &[u8]) -> usize
     requires { at + length bytes.now ≤ length out.old }
     ensures next { result ≡ at + length bytes.now }
     ensures wrote { out.new ≡ put at bytes.now out.old }
 {
-    let mut next = at;
-    for b in bytes {
-        next = put_byte(out, next, *b);
-    }
+    let next = at + bytes.len();
+    out[at..next].clone_from_slice(bytes).unwrap();
     next
 }

@@ -1,5 +1,6 @@
 -- The answer to an echo goes to whoever asked.
-use Rattle.std.proofs.Common.{◌≡◌, ℕ, zero, suc, ◌+◌, ◌<◌, ◌≤◌, Bool, true, false, cond, eqb, ltb, leb, List, [], ◌∷◌, ◌++◌, length, get_or, take, drop, Ok, Err, sym, refl, ap, ◌∙◌, subst, add-zero, arith}
+use Rattle.std.proofs.Common.{◌≡◌, ℕ, zero, suc, ◌+◌, ◌<◌, ◌≤◌, Bool, true, false, cond, eqb, ltb, leb, List, [], ◌∷◌, ◌++◌, length, get_or, take, drop, set, Ok, Err, sym, refl, ap, ◌∙◌, subst, add-zero, arith}
+use borrow.Rule.Slice.PartMut.{put_mid}
 use Rattle.std.proofs.lemmas.List.{drop_more}
 use Rattle.std.proofs.lemmas.Bool.{and_from, and_parts, and_right, cond-true, le-leb, leb-true}
 use Rattle.checksum.specs.Bytes.{Bytes}
@@ -51,6 +52,10 @@ bytes_drop zero xs h = h
 bytes_drop (suc k) [] h = tt
 bytes_drop (suc k) (x ∷ xs) h = bytes_drop k xs h.1
 
+-- the first k after the rest
+abbrev turned_of : ℕ → List ℕ → List ℕ
+turned_of k xs = drop k xs ++ take k xs
+
 -- a packet of 24 bytes and more
 module _ (x0 x1 x2 x3 x4 x5 x6 x7 x8 x9 x10 x11 x12 x13 x14 x15 x16 x17 x18 x19 x20 x21 x22 x23 : ℕ) (rest : List ℕ) where
   abbrev asking : List ℕ
@@ -70,6 +75,17 @@ module _ (x0 x1 x2 x3 x4 x5 x6 x7 x8 x9 x10 x11 x12 x13 x14 x15 x16 x17 x18 x19 
         goes_to n (both_summed (answered asking)) (and_from (leb 20 (length asking)) _ a.0 (and_from (eqb x0 0x45) _ b.0 (and_from (eqb (word_at asking 2) (length asking)) _ c.0 head)))
             (and_from (is_address n x16 x17) (is_address n x12 x13) d.1 d.0) (omega arith) (and_right (eqb x9 1) _ refl),
       )
+
+  -- the eight bytes of the two addresses, turned by four
+  laid_turned : set (put_mid 12 8 (set asking 8 64) (turned_of 4 (take 8 (drop 12 (set asking 8 64))))) 20 0 ≡ answered asking
+  unfolding put
+  laid_turned = refl
+
+pub addresses_turned : (p m : List ℕ) → 28 ≤ length p → m ≡ turned_of 4 (take 8 (drop 12 (set p 8 64))) → set (put_mid 12 8 (set p 8 64) m) 20 0 ≡ answered p
+addresses_turned p m l e =
+    ap (λ z. set (put_mid 12 8 (set p 8 64) z) 20 0) e
+    ∙ subst (λ q. set (put_mid 12 8 (set q 8 64) (turned_of 4 (take 8 (drop 12 (set q 8 64))))) 20 0 ≡ answered q) (sym (one_by_one_lem 24 0 p (omega arith)))
+    (laid_turned (get_or p 0 0) (get_or p 1 0) (get_or p 2 0) (get_or p 3 0) (get_or p 4 0) (get_or p 5 0) (get_or p 6 0) (get_or p 7 0) (get_or p 8 0) (get_or p 9 0) (get_or p 10 0) (get_or p 11 0) (get_or p 12 0) (get_or p 13 0) (get_or p 14 0) (get_or p 15 0) (get_or p 16 0) (get_or p 17 0) (get_or p 18 0) (get_or p 19 0) (get_or p 20 0) (get_or p 21 0) (get_or p 22 0) (get_or p 23 0) (drop 24 p))
 
 pub echo_good_lem : (p : List ℕ) → Bytes p → EchoGood p (echoed p)
 echo_good_lem p b n me h =

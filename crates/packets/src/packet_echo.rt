@@ -1,13 +1,20 @@
 // The answer to an echo request.
-ghost use Rattle.std.specs.Prelude.{◌≡◌};
+ghost use Rattle.std.specs.Prelude.{◌≡◌, ◌++◌, length, take, drop};
 ghost use Rattle.packets.specs.Packet.{echoed};
 ghost use Rattle.packets.specs.Travels.{EchoGood};
 
 use crate::sums::put_sums;
-use octets::put_bytes;
+
+// The two addresses, of four bytes each, change places.
+fn swap_addresses(addresses: &mut [u8])
+    requires { length addresses.old ≡ 8 }
+    ensures { addresses.new ≡ drop 4 addresses.old ++ take 4 addresses.old }
+{
+    let (source, destination) = addresses.split_at_mut(4);
+    source.swap_with_slice(destination);
+}
 
 // Turns an echo request into its answer, where it stands.
-// Kept: both addresses taken out and put back. `rotate_left` over the two turns them through a room of 4 KiB that it clears first, which took half of the time again.
 pub fn echo_back(packet: &mut [u8])
     ensures is { packet.new ≡ echoed packet.old }
     ensures good { EchoGood packet.old packet.new }
@@ -15,11 +22,8 @@ pub fn echo_back(packet: &mut [u8])
     if packet.len() < 28 {
         return;
     }
-    let source = [packet[12], packet[13], packet[14], packet[15]];
-    let destination = [packet[16], packet[17], packet[18], packet[19]];
     packet[8] = 64;
-    put_bytes(packet, 12, &destination);
-    put_bytes(packet, 16, &source);
+    swap_addresses(&mut packet[12..20]);
     packet[20] = 0;
     put_sums(packet);
 }

@@ -1,5 +1,8 @@
 -- The roads among the costs to each box: one box more, and how many there are.
-use Rattle.std.proofs.Common.{◌≡◌, ℕ, zero, suc, ◌+◌, ◌*◌, ◌<◌, ◌≤◌, List, [], ◌∷◌, ◌++◌, length, get_or, set, replicate, Ok, Err, ap, ⊎_elim, append-nil, add-one, arith, length-append}
+use Rattle.std.proofs.Common.{◌≡◌, ℕ, zero, suc, ◌+◌, ◌*◌, ◌<◌, ◌≤◌, List, [], ◌∷◌, ◌++◌, length, get_or, set, take, replicate, cond, not, eqb, Ok, Err, sym, refl, ap, ◌∙◌, subst, ⊎_elim, append-nil, add-one, arith, length-append}
+use Rattle.std.specs.List.{sum_by}
+use Rattle.std.proofs.lemmas.List.{take_all}
+use Rattle.std.proofs.lemmas.List.Sums.{sum_by_more}
 use Rattle.std.proofs.lemmas.Bool.{eq-eqb, ne_eqb, cases_eq, cases_lt}
 use Rattle.octets.specs.declared.Fault.{Fault}
 use Rattle.octets.specs.Reads.{times}
@@ -44,6 +47,25 @@ roads_mono costs i (suc k) h =
     (λ (q : k < i). let e : i ≡ suc k = omega arith in rw e (omega arith))
     (λ (q : i ≤ k). let ih = roads_mono costs i k (omega arith) in let s = rw add-one at (roads_step costs k) in omega (arith, s.0))
     (cases_lt k i)
+
+-- one for each cost other than 0
+abbrev pub one_each : ℕ → ℕ
+one_each x = cond (not (eqb x 0)) 1 0
+
+summed_to : (costs : List ℕ) (i : ℕ) → i ≤ length costs → sum_by one_each (take i costs) ≡ length (roads_to costs i)
+unfolding roads_to
+summed_to costs zero h = refl
+summed_to costs (suc i) h =
+    let e : i + 1 ≡ suc i = omega arith in
+    subst (λ k. sum_by one_each (take k costs) ≡ length (roads_to costs k)) e
+    (sum_by_more one_each costs i 0 (omega arith)
+    ∙ ⊎_elim
+    (λ z. rw (eq-eqb (get_or costs i 0) 0 z, roads_skip costs i z, summed_to costs i (omega arith)) (omega arith))
+    (λ z. rw (ne_eqb (get_or costs i 0) 0 z, roads_take costs i z, length-append, summed_to costs i (omega arith)) (omega arith))
+    (cases_eq (get_or costs i 0) 0))
+
+pub roads_summed : (costs : List ℕ) → length costs ≡ 64 → sum_by one_each costs ≡ length (roads_to costs 64)
+roads_summed costs h = ap (λ xs. sum_by one_each xs) (sym (take_all 64 costs (omega arith))) ∙ summed_to costs 64 (omega arith)
 
 pub length_road : (r : ℕ × ℕ) → length (bytes_of_road r) ≡ 3
 length_road r = ap suc (length_octets 2 r.1)

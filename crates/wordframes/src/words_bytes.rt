@@ -57,7 +57,6 @@ pub fn read_word(reader: &mut Reader, n: u8) -> Result<Word, Fault>
 }
 
 // What follows the kind, to the end.
-#[inline(never)]
 pub fn read_words(reader: &mut Reader, n: u8) -> Result<Words, Fault>
     requires { n ≤ 64 }
     ensures { words_in n reader.old.left.now ≡ with_left result reader.new.left.now }

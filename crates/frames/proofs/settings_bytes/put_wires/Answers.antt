@@ -1,6 +1,5 @@
 use Rattle.std.proofs.Common.{◌≡◌, ◌++◌, get_or, take, ap, ◌∙◌, subst, arith}
-use Rattle.std.proofs.lemmas.List.{take_all}
-use Rattle.octets.specs.Writes.{octets, put}
+use Rattle.octets.specs.Writes.{octets}
 use Rattle.octets.proofs.Puts.{Written, written_none, then_number}
 use Rattle.frames.specs.Writing.{bytes_of_wires}
 use Rattle.wordframes.proofs.Lengths.{joined_next}

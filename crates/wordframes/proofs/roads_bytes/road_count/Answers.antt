@@ -1,19 +1,13 @@
-use Rattle.std.proofs.Common.{refl, arith, length-append}
-use Rattle.wordframes.specs.Writing.{roads_to}
-use Rattle.wordframes.proofs.Roads.{roads_few, roads_skip, roads_take}
+use Rattle.std.proofs.Common.{◌≡◌, ◌<◌, ◌∙◌, rules, arith}
+use Rattle.std.specs.List.{sum_by}
+use Rattle.std.proofs.iter.runs.Sources.{sums}
+use Rattle.wordframes.proofs.Roads.{one_each, roads_few, roads_summed}
 use Rattle.wordframes.proofs.roads_bytes.road_count.Goals as goal
-use Rattle.wordframes.proofs.roads_bytes.road_count.Goals.{then-costs-i-ne0, else-costs-i-ne0}
 
-pub loop-i-init : goal.loop-i-init
-unfolding roads_to
-loop-i-init c = refl
+pub sum-requires-clause-fits : goal.sum-requires-clause-fits
+sum-requires-clause-fits c =
+    let few : sum_by one_each c.args.costs < 256 = omega (arith, roads_summed c.args.costs (search rules), roads_few c.args.costs 64) in
+    search (rules, sums, few)
 
-pub overflow_add-count : goal.overflow_add-count
-overflow_add-count c = omega (arith, c.loop-i.invariant, roads_few c.args.costs c.loop-i.i)
-
-pub loop-i-preserved : goal.loop-i-preserved
-loop-i-preserved c =
-    elim c.if-costs-i-ne0.branch [
-      | then-costs-i-ne0 w ↦ rw (roads_take c.args.costs c.loop-i.i w.if-costs-i-ne0.true, length-append) (omega (arith, w.count-is, c.loop-i.invariant))
-      | else-costs-i-ne0 w ↦ rw (roads_skip c.args.costs c.loop-i.i w.if-costs-i-ne0.false) (omega (arith, w.count-is, c.loop-i.invariant))
-    ]
+pub returns : goal.returns
+returns c = let s : c.sum.result ≡ sum_by one_each c.args.costs = search (rules, sums) in s ∙ roads_summed c.args.costs (search rules)
